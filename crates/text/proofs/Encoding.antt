@@ -33,6 +33,11 @@ pub arm : (low n : ℕ) (l : Lead) → T (all (leads l) low n) → (b : ℕ) →
 unfolding leads leadOf
 arm low n l t b h g = same-lead-is l (leadOf b) (span (leads l) n low t b h g)
 
+-- the range of the byte behind one that begins no character
+pub nowhere : (b : ℕ) → within 1 0 b ≡ false
+nowhere zero = refl
+nowhere (suc b) = ap (_&&_ (leb 1 (suc b))) (lt-leb (suc b) 0 (omega arith)) ∙ and-false (leb 1 (suc b))
+
 -- how many bytes follow a lead byte, by its range
 unfoldable expecting : ℕ → ℕ → Bool
 expecting tail b = eqb (leadOf b .tail) tail
@@ -136,11 +141,7 @@ module _ (s : List ℕ) (i : ℕ) (room : i < length s) where
   nothing-follows : (k : ℕ) (l : List ℕ) {x : Lead} → expects 1 1 0 ≡ x → follows (suc k) (x .low) (x .high) l ≡ false
   unfolding follows
   nothing-follows k [] e = refl
-  nothing-follows k (b ∷ l) e = ap (λ (x : Lead). within (x .low) (x .high) b && follows k 0x80 0xBF l) (sym e) ∙ ap (λ (t : Bool). t && follows k 0x80 0xBF l) (never b)
-    where
-      never : (b : ℕ) → within 1 0 b ≡ false
-      never zero = refl
-      never (suc b) = ap (_&&_ (leb 1 (suc b))) (lt-leb (suc b) 0 (omega arith)) ∙ and-false (leb 1 (suc b))
+  nothing-follows k (b ∷ l) e = ap (λ (x : Lead). within (x .low) (x .high) b && follows k 0x80 0xBF l) (sym e) ∙ ap (λ (t : Bool). t && follows k 0x80 0xBF l) (nowhere b)
 
   -- the last branch of the check: four bytes, or a byte that begins no character
   pub four : {r : Bool} → 0xF0 ≤ getD s i 0 → getD s i 0 < 0x100 → r ≡ tailed 3 s i → Character s i 4 r

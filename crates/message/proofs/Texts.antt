@@ -2,7 +2,7 @@
 use mathlib.Core.Path.{_≡_}
 use mathlib.Core.List.{List, _++_, append-assoc}
 use Prim.Native.Nat.{ℕ}
-use Rattle.text.specs.Find.{bytes}
+use Rattle.text.specs.Bytes.{bytes}
 use Rattle.message.specs.Build.{searchText, responseText, notifyText, byebyeText, message, headerLines, headerLine, field, crlf, searchLine, responseLine, notifyLine, hostText, maxAgeText, serverText, bootHeaders}
 
 abbrev pub notifyStart : List ℕ

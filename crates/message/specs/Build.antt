@@ -6,7 +6,7 @@ use mathlib.Core.Bool.{Bool, true, false, cond, not, _||_}
 use mathlib.Core.List.{List, [], _∷_, _++_}
 use lib.Dec.{eqb, ltb}
 use lib.ListN.{length, drop}
-use Rattle.text.specs.Find.{bytes}
+use Rattle.text.specs.Bytes.{bytes}
 use Rattle.text.specs.Good.{goodText}
 use Rattle.message.specs.Refusals.{accepted, textOverSize, textNotGood, bufferShort}
 use Rattle.message.specs.declared.build.Built.{Built}

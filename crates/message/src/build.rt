@@ -1,9 +1,10 @@
 // The four messages, written into a lent buffer: document 01, 'Messages' and 'Who can be turned away' (3, 4, 6).
+use text::good;
 ghost use mathlib.Core.Path.{_≡_};
 ghost use mathlib.Core.List.{_++_};
 ghost use Prim.Native.Nat.{_+_, _≤_};
 ghost use lib.ListN.{length};
-ghost use Rattle.text.specs.Find.{bytes};
+ghost use Rattle.text.specs.Bytes.{bytes};
 ghost use Rattle.message.specs.Put.{Put};
 ghost use Rattle.message.specs.Build.{Builds, buildRefusal, searchTexts, byebyeTexts, locatedTexts, searchText, responseText, notifyText, byebyeText, message, headerLine, headerLines, field, crlf, hostText, maxAgeText, serverText, bootHeaders, notifyLine};
 
@@ -132,13 +133,13 @@ fn refusal_of(kind: &[u8], name: &[u8], location: &[u8], besides: usize, room: u
     if LOCATION_MAX < location.len() {
         return TEXT_OVER_SIZE;
     }
-    if !text::is_good(kind) {
+    if !good::is_good(kind) {
         return TEXT_NOT_GOOD;
     }
-    if !text::is_good(name) {
+    if !good::is_good(name) {
         return TEXT_NOT_GOOD;
     }
-    if !text::is_good(location) {
+    if !good::is_good(location) {
         return TEXT_NOT_GOOD;
     }
     if room < besides + (kind.len() + (name.len() + location.len())) {

@@ -1,5 +1,5 @@
 -- `put_alive` meets its contract: the parts of the text, each right behind the one before.
-use Rattle.text.specs.Find.{bytes}
+use Rattle.text.specs.Bytes.{bytes}
 use Rattle.message.specs.Build.{headerLine, headerLines, serverText, bootHeaders}
 use Rattle.message.proofs.Put.{_⨟_, text}
 use Rattle.message.proofs.Texts.{notify-row}

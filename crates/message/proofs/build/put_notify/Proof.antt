@@ -1,6 +1,6 @@
 -- `put_notify` meets its contract: three lines, each right behind the one before.
 use native.Mathlib.Omega.{arith}
-use Rattle.text.specs.Find.{bytes}
+use Rattle.text.specs.Bytes.{bytes}
 use Rattle.message.specs.Build.{headerLine, notifyLine, hostText, maxAgeText}
 use Rattle.message.proofs.Put.{_⨟_}
 use borrow.Author.Needs.{needs}

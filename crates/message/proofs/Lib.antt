@@ -2,3 +2,4 @@
 pub mod Put
 pub mod Texts
 pub mod Building
+pub mod Sending

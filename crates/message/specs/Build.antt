@@ -21,6 +21,10 @@ nameMax = 128
 abbrev pub buildLocationMax : ℕ
 buildLocationMax = 135
 
+-- "so no message passes 506"
+abbrev pub messageMax : ℕ
+messageMax = 506
+
 -- a text that is handed in to stand in a message, and its largest size
 pub record Bounded : Type 0 where
   pub text : List ℕ

@@ -2,4 +2,6 @@
 pub mod Put
 pub mod Texts
 pub mod Building
+pub mod Keys
+pub mod Lookup
 pub mod Sending

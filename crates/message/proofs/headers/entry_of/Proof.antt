@@ -1,68 +1,66 @@
+-- `entry_of` meets its contract: one law for each answer.
+use mathlib.Core.Path.{refl, sym, _∙_, ap}
+use Prim.Native.Nat.{_+_, _-_, _≤_}
+use native.Mathlib.Omega.{arith}
+use lib.ListN.{length, take, drop, length-take}
+use lib.Seq.{length-take-le}
+use Rattle.text.specs.declared.white.Place.{Place}
+use Rattle.text.proofs.Trimming.{trimmed-inside}
+use Rattle.message.proofs.Lookup.{no-colon, other-key, a-key}
 use borrow.Author.Needs.{needs}
 use Rattle.message.proofs.headers.entry_of.Statement.{statement}
 use Rattle.message.proofs.headers.entry_of.Tie as tie
-use Rattle.message.proofs.headers.entry_of.Reads as reads
-use Rattle.message.proofs.headers.entry_of.Lts as lts
-use Rattle.message.proofs.headers.key_of.Reads as key-of-reads
-use Rattle.message.proofs.headers.no_entry.Reads as no-entry-reads
-use Rattle.text.proofs.bytes.find.Reads as find-reads
-use Rattle.text.proofs.white.trim.Reads as trim-reads
 
--- src/headers.rt:78:9
 find-requires : tie.Need-find-requires
 find-requires c κs = search needs
 
--- src/headers.rt:80:9
 no-entry-requires : tie.Need-no-entry-requires
 no-entry-requires c κs = search needs
 
--- src/headers.rt:80:9
 returns : tie.Need-returns
-returns c = ?
+returns c = c .no-entry .ensures ∙ no-colon (c .before .before .before .before .args .line .now) (c .before .before .find .ensures) (c .before .if1 .taken)
 
--- src/headers.rt:82:22
 slice-aggregate-key-of : tie.Need-slice-aggregate-key-of
-slice-aggregate-key-of c = ?
+slice-aggregate-key-of c = sym (length-take-le (c .before .before .find .result) (c .before .before .before .before .args .line .now) (omega arith))
 
--- src/headers.rt:82:9
 key-of-requires : tie.Need-key-of-requires
 key-of-requires c κs = search needs
 
--- src/headers.rt:84:9
 no-entry-requires-2 : tie.Need-no-entry-requires-2
 no-entry-requires-2 c κs = search needs
 
--- src/headers.rt:84:9
 returns-2 : tie.Need-returns-2
-returns-2 c = ?
+returns-2 c =
+    c .no-entry2 .ensures
+    ∙ other-key (c .before .before .before .before .before .before .before .args .line .now) (c .before .before .before .before .before .find .ensures) (omega arith) (c .before .before .key-of .ensures) (c .before .if2 .taken)
 
--- src/headers.rt:86:18
 add-behind : tie.Need-add-behind
 add-behind c = search needs
 
--- src/headers.rt:87:29
 sub-trim : tie.Need-sub-trim
 sub-trim c = search needs
 
--- src/headers.rt:87:29
 part-trim-start : tie.Need-part-trim-start
 part-trim-start c = search needs
 
--- src/headers.rt:87:29
 part-trim-end : tie.Need-part-trim-end
 part-trim-end c = search needs
 
--- src/headers.rt:87:9
 trim-requires : tie.Need-trim-requires
 trim-requires c κs = search needs
 
--- src/headers.rt:91:20
 add-t6 : tie.Need-add-t6
-add-t6 c = ?
+add-t6 c =
+    let line = c .before .before .before .before .before .before .before .before .before .args .line .now in
+    let behind = c .before .before .before .before .before .before .before .find .result + 1 in
+    let value = take (length line - behind) (drop behind line) in
+    let inside : length value ≤ length line = omega (arith, length-take (length line - behind) (drop behind line)) in
+    omega (arith, ap (λ (p : Place). p .start) (c .before .trim .ensures), trimmed-inside value)
 
--- src/headers.rt:75:1
 returns-3 : tie.Need-returns-3
-returns-3 c = ?
+returns-3 c =
+    a-key (c .before .before .before .before .before .before .before .before .before .args .line .now) (c .before .before .before .before .before .before .before .find .ensures) (omega arith) (c .before .before .before .before .key-of .ensures) (c .before .before .before .if2 .left) refl
+    (c .before .trim .ensures)
 
 pub entry-of-spec : {M : Type 1} → statement M
 entry-of-spec =

@@ -1,7 +1,7 @@
 -- The header of a key in a datagram: document 01, 'Messages', its first four sentences.
 use Prim.Native.Nat.{ℕ, suc, _+_}
 use mathlib.Core.Bool.{Bool, true, false, cond, _&&_}
-use mathlib.Core.List.{List, [], _∷_}
+use mathlib.Core.List.{List, [], _∷_, map}
 use lib.Dec.{ltb}
 use lib.ListN.{length, take, drop}
 use Rattle.text.specs.Bytes.{bytes, indexOf, equalUpper}
@@ -75,7 +75,6 @@ noEntry = record { key = 6; value = record { start = 0; len = 0 } }
 unfoldable pub entryOf : List ℕ → Entry
 entryOf line = cond (ltb (lineKey line) 6) (record { key = lineKey line; value = valueOf line }) noEntry
 
--- the headers of all the keys
-unfoldable pub headersIn : ℕ → List (List ℕ) → List (List ℕ) → List Header
-headersIn at ls [] = []
-headersIn at ls (key ∷ rest) = headerIn key at ls ∷ headersIn at ls rest
+-- the headers of all the keys in lines that start at `at`
+abbrev pub headersIn : ℕ → List (List ℕ) → List Header
+headersIn at ls = map (λ key. headerIn key at ls) keys

@@ -95,7 +95,7 @@ fn entry_of(line: &[u8]) -> Entry
 
 // The headers of the lines from `from` on, each at its key's place in the table.
 pub fn headers_from(s: &[u8], from: usize) -> [Header; 6]
-    ensures { λ r. ⌜ r ≡ headersIn from (lines (drop from (now (s .entry)))) keys ⌝ }
+    ensures { λ r. ⌜ r ≡ headersIn from (lines (drop from (now (s .entry)))) ⌝ }
 {
     let mut latest = [Header::Absent; 6];
     let mut at = from;

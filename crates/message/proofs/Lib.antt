@@ -4,4 +4,5 @@ pub mod Texts
 pub mod Building
 pub mod Keys
 pub mod Lookup
+pub mod Reading
 pub mod Sending

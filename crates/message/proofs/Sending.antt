@@ -90,9 +90,9 @@ pub sent : {ts : List Bounded} {message buffer after : List ℕ} {answer : Built
 unfolding buildRefusal
 sent {ts} {message} {buffer} {after} {answer} h p =
     let e : answer .refusal ≡ cond (anyOverSize ts) textOverSize (cond (anyNotGood ts) textNotGood accepted) =
-        p .refusal
-        ∙ ap (λ (b : Bool). cond (anyOverSize ts) textOverSize (cond (anyNotGood ts) textNotGood (cond b bufferShort accepted)))
-        (le-ltb (length buffer) (length message) h)
+    p .refusal
+    ∙ ap (λ (b : Bool). cond (anyOverSize ts) textOverSize (cond (anyNotGood ts) textNotGood (cond b bufferShort accepted)))
+    (le-ltb (length buffer) (length message) h)
     in
     sent-test (anyOverSize ts) (anyNotGood ts) message buffer after answer e (p .len) (p .written)
 
@@ -103,7 +103,7 @@ pub sent-at : {ts : List Bounded} {message outbox d after : List ℕ} {answer : 
     → Put outbox at (sentText ts message) after (at + answer .len)
 sent-at {ts} {message} {outbox} at h p e =
     let n : length (take (length outbox - at) (drop at outbox)) ≡ length outbox - at =
-        length-take-le (length outbox - at) (drop at outbox) (omega (arith, length-drop at outbox))
+    length-take-le (length outbox - at) (drop at outbox) (omega (arith, length-drop at outbox))
     in
     puts.part at (omega arith) (sent (omega (arith, n)) p) e
 

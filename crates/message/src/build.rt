@@ -10,24 +10,34 @@ ghost use Rattle.message.specs.Build.{Builds, buildRefusal, searchTexts,
 
 // The largest sizes of the texts that go into a message.
 const TYPE_MAX: usize = 80;
+
 const NAME_MAX: usize = 128;
+
 const LOCATION_MAX: usize = 135;
 
 // The bytes of each message besides its texts.
 const SEARCH_BESIDES: usize = 86;
+
 const RESPONSE_BESIDES: usize = 116;
+
 const NOTIFY_BESIDES: usize = 163;
+
 const BYEBYE_BESIDES: usize = 152;
 
 // Refusal numbers.
 const ACCEPTED: u32 = 0;
+
 const TEXT_OVER_SIZE: u32 = 3;
+
 const TEXT_NOT_GOOD: u32 = 4;
+
 const BUFFER_SHORT: u32 = 6;
 
 // Lines that several messages have.
 const HOST: [u8; 28] = *b"HOST: 239.255.255.250:1900\r\n";
+
 const MAX_AGE: [u8; 29] = *b"CACHE-CONTROL: max-age=1800\r\n";
+
 const SERVER_AND_END: [u8; 45] = *b"SERVER: none/0 UPnP/1.0 cotton-ssdp/1.0.0\r\n\r\n";
 
 // What a build answers: the refusal, 0 if there is none, and the length of the message, 0 if it was refused.
@@ -169,7 +179,13 @@ pub fn build_response(
 ) -> Built
     ensures { λ r. ⌜ Builds (locatedTexts (now («search_target» .entry)) (now («unique_service_name» .entry)) (now (location .entry))) (responseText (now («search_target» .entry)) (now («unique_service_name» .entry)) (now (location .entry))) (now (buf .entry)) (now (buf .exit)) r ⌝ }
 {
-    let refusal = refusal_of(search_target, unique_service_name, location, RESPONSE_BESIDES, buf.len());
+    let refusal = refusal_of(
+        search_target,
+        unique_service_name,
+        location,
+        RESPONSE_BESIDES,
+        buf.len(),
+    );
     if refusal != ACCEPTED {
         return Built { refusal, len: 0 };
     }
@@ -186,7 +202,13 @@ pub fn build_notify(
 ) -> Built
     ensures { λ r. ⌜ Builds (locatedTexts (now («notification_type» .entry)) (now («unique_service_name» .entry)) (now (location .entry))) (notifyText (now («notification_type» .entry)) (now («unique_service_name» .entry)) (now (location .entry))) (now (buf .entry)) (now (buf .exit)) r ⌝ }
 {
-    let refusal = refusal_of(notification_type, unique_service_name, location, NOTIFY_BESIDES, buf.len());
+    let refusal = refusal_of(
+        notification_type,
+        unique_service_name,
+        location,
+        NOTIFY_BESIDES,
+        buf.len(),
+    );
     if refusal != ACCEPTED {
         return Built { refusal, len: 0 };
     }
@@ -198,7 +220,13 @@ pub fn build_notify(
 pub fn build_byebye(buf: &mut [u8], notification_type: &[u8], unique_service_name: &[u8]) -> Built
     ensures { λ r. ⌜ Builds (byebyeTexts (now («notification_type» .entry)) (now («unique_service_name» .entry))) (byebyeText (now («notification_type» .entry)) (now («unique_service_name» .entry))) (now (buf .entry)) (now (buf .exit)) r ⌝ }
 {
-    let refusal = refusal_of(notification_type, unique_service_name, b"", BYEBYE_BESIDES, buf.len());
+    let refusal = refusal_of(
+        notification_type,
+        unique_service_name,
+        b"",
+        BYEBYE_BESIDES,
+        buf.len(),
+    );
     if refusal != ACCEPTED {
         return Built { refusal, len: 0 };
     }

@@ -22,13 +22,18 @@ pub struct Entry {
 
 // The keys that are looked up.
 pub const NT: usize = 0;
-pub const ST: usize = 1;
-pub const MX: usize = 2;
-pub const NTS: usize = 3;
-pub const USN: usize = 4;
-pub const LOCATION: usize = 5;
-const OTHER: usize = 6;
 
+pub const ST: usize = 1;
+
+pub const MX: usize = 2;
+
+pub const NTS: usize = 3;
+
+pub const USN: usize = 4;
+
+pub const LOCATION: usize = 5;
+
+const OTHER: usize = 6;
 
 // Which key a text is, in any case of its letters. Its length tells which keys it can be.
 fn key_of(text: &[u8]) -> usize

@@ -57,18 +57,20 @@ loop-less c = let some = line-some (c .before .before .before .before .before .b
 
 loop-again : tie.Need-loop-again Inv-loop μ-loop
 loop-again c =
-    let h = c .before .before .before .before .before .before .before .before .loop in
-    ( simp length-set (h .inv .0)
-    , turn (c .before .before .before .before .before .before .before .before .before .before .args .s .now) (c .before .before .before .before .before .before .before .before .loop .at) (c .before .before .before .before .before .before .before .loop-test .taken) refl (c .before .before .before .before .before .first-line .ensures) (h .latest) (noted-entry _ (h .at) (h .latest) (h .inv .0) (c .before .before .before .entry-of .ensures) (c .if1 .taken)) ∙ h .inv .1)
+    let h = c .before .before .before .before .before .before .before .before .loop in (
+      simp length-set (h .inv .0),
+      turn (c .before .before .before .before .before .before .before .before .before .before .args .s .now) (c .before .before .before .before .before .before .before .before .loop .at) (c .before .before .before .before .before .before .before .loop-test .taken) refl (c .before .before .before .before .before .first-line .ensures) (h .latest) (noted-entry _ (h .at) (h .latest) (h .inv .0) (c .before .before .before .entry-of .ensures) (c .if1 .taken)) ∙ h .inv .1,
+    )
 
 loop-less-2 : tie.Need-loop-less-2 Inv-loop μ-loop
 loop-less-2 c = let some = line-some (c .before .before .before .before .before .before .before .before .before .before .args .s .now) (c .before .before .before .before .before .before .before .before .loop .at) (c .before .before .before .before .before .before .before .loop-test .taken) refl (c .before .before .before .before .before .first-line .ensures) in let inside = line-inside (c .before .before .before .before .before .before .before .before .before .before .args .s .now) (c .before .before .before .before .before .before .before .before .loop .at) (c .before .before .before .before .before .before .before .loop-test .taken) refl (c .before .before .before .before .before .first-line .ensures) in omega arith
 
 loop-again-2 : tie.Need-loop-again-2 Inv-loop μ-loop
 loop-again-2 c =
-    let h = c .before .before .before .before .before .before .before .before .loop in
-    ( h .inv .0
-    , turn (c .before .before .before .before .before .before .before .before .before .before .args .s .now) (c .before .before .before .before .before .before .before .before .loop .at) (c .before .before .before .before .before .before .before .loop-test .taken) refl (c .before .before .before .before .before .first-line .ensures) (h .latest) (noted-other _ (h .at) (h .latest) (h .inv .0) (c .before .before .before .entry-of .ensures) (c .if1 .left)) ∙ h .inv .1)
+    let h = c .before .before .before .before .before .before .before .before .loop in (
+      h .inv .0,
+      turn (c .before .before .before .before .before .before .before .before .before .before .args .s .now) (c .before .before .before .before .before .before .before .before .loop .at) (c .before .before .before .before .before .before .before .loop-test .taken) refl (c .before .before .before .before .before .first-line .ensures) (h .latest) (noted-other _ (h .at) (h .latest) (h .inv .0) (c .before .before .before .entry-of .ensures) (c .if1 .left)) ∙ h .inv .1,
+    )
 
 returns : tie.Need-returns Inv-loop μ-loop
 returns c = let h = c .before .loop in sym (end (c .before .before .before .args .s .now) (h .at) (h .latest) (c .loop-test .left)) ∙ h .inv .1

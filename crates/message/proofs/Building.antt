@@ -14,23 +14,23 @@ use Rattle.text.specs.Utf8.{utf8, rest}
 use Rattle.text.specs.White.{leading, trailing, run}
 use Rattle.message.specs.Refusals.{accepted, textOverSize, textNotGood, bufferShort}
 use Rattle.message.specs.Put.{overwritten, Put}
-use Rattle.message.specs.Build.{Bounded, buildRefusal, Builds, anyOverSize, anyNotGood, searchTexts, byebyeTexts, locatedTexts, searchText, responseText, notifyText, byebyeText, message, headerLines, headerLine, searchLine, responseLine, notifyLine, hostText, maxAgeText, serverText, bootHeaders}
+use Rattle.message.specs.Build.{Bounded, buildRefusal, Builds, anyOverSize, anyNotGood, searchTexts, byebyeTexts, locatedTexts, searchText, responseText, notifyText, byebyeText, searchHeaders, responseHeaders, notifyHeaders, byebyeHeaders, message, headerLines, headerLine, searchLine, responseLine, notifyLine, hostText, maxAgeText, serverText, bootHeaders}
 
 -- lengths: "Bytes besides the fields: search 86, response 116, notify 163, byebye 152"
 pub search-length : (st : List ℕ) → length (searchText st) ≡ 86 + length st
-unfolding searchText message headerLines headerLine searchLine hostText bytes
+unfolding searchText searchHeaders message headerLines headerLine searchLine hostText bytes
 search-length st = simp length-append (omega arith)
 
 pub response-length : (st usn loc : List ℕ) → length (responseText st usn loc) ≡ 116 + (length st + (length usn + length loc))
-unfolding responseText message headerLines headerLine responseLine maxAgeText serverText bootHeaders bytes
+unfolding responseText responseHeaders message headerLines headerLine responseLine maxAgeText serverText bootHeaders bytes
 response-length st usn loc = simp length-append (omega arith)
 
 pub notify-length : (nt usn loc : List ℕ) → length (notifyText nt usn loc) ≡ 163 + (length nt + (length usn + length loc))
-unfolding notifyText message headerLines headerLine notifyLine hostText maxAgeText serverText bootHeaders bytes
+unfolding notifyText notifyHeaders message headerLines headerLine notifyLine hostText maxAgeText serverText bootHeaders bytes
 notify-length nt usn loc = simp length-append (omega arith)
 
 pub byebye-length : (nt usn : List ℕ) → length (byebyeText nt usn) ≡ 152 + (length nt + length usn)
-unfolding byebyeText message headerLines headerLine notifyLine hostText maxAgeText serverText bootHeaders bytes
+unfolding byebyeText byebyeHeaders message headerLines headerLine notifyLine hostText maxAgeText serverText bootHeaders bytes
 byebye-length nt usn = simp length-append (omega arith)
 
 -- an accepted build has room

@@ -5,4 +5,6 @@ pub mod Building
 pub mod Keys
 pub mod Lookup
 pub mod Reading
+pub mod Written
 pub mod Sending
+pub mod RoundTrip

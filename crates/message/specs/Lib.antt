@@ -4,3 +4,4 @@ pub mod Put
 pub mod Build
 pub mod Headers
 pub mod Parse
+pub mod RoundTrip

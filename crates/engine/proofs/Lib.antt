@@ -1,0 +1,2 @@
+-- Laws of the engine's definitions, a file for each subject.
+pub mod Timer

@@ -1,0 +1,2 @@
+// The discovery engine of document 01, file by file.
+pub mod refresh_timer;

@@ -1,2 +1,4 @@
 -- Laws of the engine's definitions, a file for each subject.
 pub mod Timer
+pub mod Flag
+pub mod Wait

@@ -6,7 +6,8 @@ use native.Mathlib.Omega.{arith}
 use borrow.Author.Tests.{eq-eqb, ne-eqb, lt-ltb, le-ltb, le-leb, lt-leb}
 use lib.Dec.{eqb, leb, ltb}
 use Rattle.engine.specs.declared.refresh_timer.RefreshTimer.{RefreshTimer}
-use Rattle.engine.specs.RefreshTimer.{maxTime, timeRefusal, seedByte, period, timerNew, timerStep, answerFor}
+use Rattle.engine.specs.Sizes.{timeMax}
+use Rattle.engine.specs.RefreshTimer.{timeRefusal, seedByte, period, timerNew, timerStep, answerFor}
 
 -- the byte in a phase whose number modulo 4 is known
 pub byte-of : (seed phase k : ℕ) → phase % 4 ≡ k → seedByte seed phase ≡ seed / 256 ^ k % 256
@@ -53,11 +54,11 @@ pub answer-same : (time : ℕ) {a a′ b b′ : RefreshTimer} → a ≡ a′ →
 answer-same time p q = cc
 
 -- the timer in the answer, where the time is refused and where it is not
-pub timer-refused : (time : ℕ) (a b : RefreshTimer) → maxTime < time → answerFor time a b .timer ≡ a
+pub timer-refused : (time : ℕ) (a b : RefreshTimer) → timeMax < time → answerFor time a b .timer ≡ a
 unfolding answerFor
 timer-refused time a b e = rw (lt-leb _ _ e)
 
-pub timer-accepted : (time : ℕ) (a b : RefreshTimer) → time ≤ maxTime → answerFor time a b .timer ≡ b
+pub timer-accepted : (time : ℕ) (a b : RefreshTimer) → time ≤ timeMax → answerFor time a b .timer ≡ b
 unfolding answerFor
 timer-accepted time a b e = rw (le-leb _ _ e)
 
@@ -68,4 +69,4 @@ cond-twice false a b = refl
 -- the test of the time a second time changes nothing
 pub answer-twice : (time : ℕ) (a b : RefreshTimer) → answerFor time a (answerFor time a b .timer) ≡ answerFor time a b
 unfolding answerFor
-answer-twice time a b = ap (λ (t : RefreshTimer). record { refusal = timeRefusal time; timer = t }) (cond-twice (leb time maxTime) a b)
+answer-twice time a b = ap (λ (t : RefreshTimer). record { refusal = timeRefusal time; timer = t }) (cond-twice (leb time timeMax) a b)

@@ -1,1 +1,4 @@
+pub mod Sizes
 pub mod RefreshTimer
+pub mod Flags
+pub mod Delay

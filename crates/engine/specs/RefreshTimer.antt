@@ -2,16 +2,13 @@
 use Prim.Native.Nat.{ℕ, _+_, _*_, _/_, _%_, _^_}
 use mathlib.Core.Bool.{Bool, cond}
 use lib.Dec.{leb, ltb, eqb}
+use Rattle.engine.specs.Sizes.{timeMax}
 use Rattle.engine.specs.declared.refresh_timer.RefreshTimer.{RefreshTimer}
 use Rattle.engine.specs.declared.refresh_timer.TimerAnswer.{TimerAnswer}
 
--- 'Times are milliseconds in 64 bits, at most 2^63 − 1.'
-abbrev pub maxTime : ℕ
-maxTime = 9223372036854775807
-
 -- refusal '1 time above 2^63 − 1'
 abbrev pub timeRefusal : ℕ → ℕ
-timeRefusal time = cond (leb time maxTime) 0 1
+timeRefusal time = cond (leb time timeMax) 0 1
 
 -- 'byte number phase of the seed (byte 0 the lowest)'; phases count modulo 4
 unfoldable pub seedByte : ℕ → ℕ → ℕ
@@ -22,11 +19,11 @@ unfoldable pub period : ℕ → ℕ → ℕ
 period seed phase = cond (eqb (phase % 4) 3) 800000 6000 + 10 * seedByte seed phase
 
 -- a timer whose first salvo is due at once
-abbrev pub timerNew : ℕ → ℕ → RefreshTimer
+unfoldable pub timerNew : ℕ → ℕ → RefreshTimer
 timerNew seed time = record { «random_seed» = seed; «next_salvo» = time; phase = 0 }
 
 -- '`reset_refresh_timer` sets the instant to now and the phase to 0'
-abbrev pub timerReset : RefreshTimer → ℕ → RefreshTimer
+unfoldable pub timerReset : RefreshTimer → ℕ → RefreshTimer
 timerReset t time = timerNew (t .«random_seed») time
 
 -- `update_refresh`: 'before the salvo instant, nothing. Else the instant grows by' the period, 'and phase steps modulo 4. One step a call, however late.'
@@ -37,7 +34,7 @@ timerStep t time =
 
 -- the call's answer where its time is refused, and where it is not
 unfoldable pub answerFor : ℕ → RefreshTimer → RefreshTimer → TimerAnswer
-answerFor time refused accepted = record { refusal = timeRefusal time; timer = cond (leb time maxTime) accepted refused }
+answerFor time refused accepted = record { refusal = timeRefusal time; timer = cond (leb time timeMax) accepted refused }
 
 -- a refused `new` gives that seed at time 0, any other refused call the untouched timer
 abbrev pub newAnswer : ℕ → ℕ → TimerAnswer

@@ -1,2 +1,4 @@
-// The discovery engine of document 01, file by file.
+// The discovery engine: what is held, and the calls on it. Sockets, clock and interface news stay with the host.
+pub mod delay;
+pub mod flags;
 pub mod refresh_timer;

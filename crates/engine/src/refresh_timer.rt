@@ -2,10 +2,11 @@
 // The contracts cite specs/RefreshTimer.antt.
 ghost use mathlib.Core.Path.{_≡_};
 ghost use Prim.Native.Nat.{_≤_};
-ghost use Rattle.engine.specs.RefreshTimer.{maxTime, timeRefusal, seedByte, period, timerNew, timerStep, answerFor, newAnswer, resetAnswer, updateAnswer};
+ghost use Rattle.engine.specs.Sizes.{timeMax};
+ghost use Rattle.engine.specs.RefreshTimer.{timeRefusal, seedByte, period, timerNew, timerStep, answerFor, newAnswer, resetAnswer, updateAnswer};
 
 // The largest time that a call may bear, in milliseconds.
-pub const MAX_TIME: u64 = 9223372036854775807;
+pub const TIME_MAX: u64 = 9223372036854775807;
 
 pub struct RefreshTimer {
     pub random_seed: u32,
@@ -13,7 +14,7 @@ pub struct RefreshTimer {
     pub phase: u8,
 }
 
-// What a call of the timer answers: refusal number 1 for a time above `MAX_TIME`, else 0, and the timer after the call.
+// What a call of the timer answers: refusal number 1 for a time above `TIME_MAX`, else 0, and the timer after the call.
 pub struct TimerAnswer {
     pub refusal: u32,
     pub timer: RefreshTimer,
@@ -44,7 +45,7 @@ fn period_of(seed: u32, phase: u8) -> u64
 
 // One step, if the salvo is due: never more, however late the call.
 fn stepped(timer: RefreshTimer, time: u64) -> RefreshTimer
-    requires { ⌜ time ≤ maxTime ⌝ }
+    requires { ⌜ time ≤ timeMax ⌝ }
     ensures { λ r. ⌜ r ≡ timerStep timer time ⌝ }
 {
     if time < timer.next_salvo {
@@ -61,14 +62,14 @@ fn stepped(timer: RefreshTimer, time: u64) -> RefreshTimer
 pub fn time_refusal(time: u64) -> u32
     ensures { λ r. ⌜ r ≡ timeRefusal time ⌝ }
 {
-    if time <= MAX_TIME { 0 } else { 1 }
+    if time <= TIME_MAX { 0 } else { 1 }
 }
 
 // The timer after `updated`.
 fn rolled(timer: RefreshTimer, time: u64) -> RefreshTimer
     ensures { λ r. ⌜ r ≡ updateAnswer timer time .timer ⌝ }
 {
-    if MAX_TIME < time {
+    if TIME_MAX < time {
         return timer;
     }
     stepped(timer, time)
@@ -78,7 +79,7 @@ fn rolled(timer: RefreshTimer, time: u64) -> RefreshTimer
 fn answer_for(time: u64, refused: RefreshTimer, accepted: RefreshTimer) -> TimerAnswer
     ensures { λ r. ⌜ r ≡ answerFor time refused accepted ⌝ }
 {
-    if time <= MAX_TIME {
+    if time <= TIME_MAX {
         return TimerAnswer {
             refusal: 0,
             timer: accepted,

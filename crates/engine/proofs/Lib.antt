@@ -1,4 +1,6 @@
 -- Laws of the engine's definitions, a file for each subject.
+pub mod Put
 pub mod Timer
 pub mod Flag
 pub mod Wait
+pub mod Rewriting

@@ -1,4 +1,6 @@
 pub mod Sizes
+pub mod Put
 pub mod RefreshTimer
 pub mod Flags
 pub mod Delay
+pub mod Location

@@ -4,3 +4,4 @@ pub mod Timer
 pub mod Flag
 pub mod Wait
 pub mod Rewriting
+pub mod Splicing

@@ -37,16 +37,16 @@ pub behind : {b t b′ u b″ : List ℕ} {at r r′ : ℕ} → at ≤ length b 
 unfolding overwritten
 behind {b} {t} {b′} {u} {b″} {at} {r} {r′} room p q =
     let la : length (take at b ++ t) ≡ r =
-        length-append (take at b) t ∙ ap (λ (k : ℕ). k + length t) (length-take-le at b room) ∙ sym (p .place)
+    length-append (take at b) t ∙ ap (λ (k : ℕ). k + length t) (length-take-le at b room) ∙ sym (p .place)
     in
     let tk : take r b′ ≡ take at b ++ t = ap (take r) (p .written) ∙ take-at (take at b ++ t) (drop (at + length t) b) r la in
     let n : at + length t + length u ≡ at + length (t ++ u) = omega (arith, length-append t u) in
     let dr : drop (r + length u) b′ ≡ drop (at + length (t ++ u)) b =
-        ap (drop (r + length u)) (p .written)
-        ∙ ap (λ (k : ℕ). drop (k + length u) (take at b ++ t ++ drop (at + length t) b)) (sym la)
-        ∙ drop-append-add (take at b ++ t) (drop (at + length t) b) (length u)
-        ∙ drop-drop (length u) (at + length t) b
-        ∙ ap (λ (k : ℕ). drop k b) n
+    ap (drop (r + length u)) (p .written)
+    ∙ ap (λ (k : ℕ). drop (k + length u) (take at b ++ t ++ drop (at + length t) b)) (sym la)
+    ∙ drop-append-add (take at b ++ t) (drop (at + length t) b) (length u)
+    ∙ drop-drop (length u) (at + length t) b
+    ∙ ap (λ (k : ℕ). drop k b) n
     in
     record {
       place = q .place ∙ ap (λ (k : ℕ). k + length u) (p .place) ∙ n;
@@ -69,11 +69,11 @@ before {b} {m} {b′} {h} {b″} {start} {at} {r} room p q =
     let la : length (take at b) ≡ at = length-take-le at b room in
     let e : b′ ≡ take at b ++ (m ++ drop (at + length m) b) = p .written ∙ append-assoc (take at b) m (drop (at + length m) b) in
     let t : take start b′ ≡ take start b =
-        ap (take start) e ∙ take-append-le start (take at b) (m ++ drop (at + length m) b) (omega (arith, q .place))
-        ∙ take-take start at b (omega (arith, q .place))
+    ap (take start) e ∙ take-append-le start (take at b) (m ++ drop (at + length m) b) (omega (arith, q .place))
+    ∙ take-take start at b (omega (arith, q .place))
     in
     let d : drop (start + length h) b′ ≡ m ++ drop (at + length m) b =
-        ap (λ (k : ℕ). drop k b′) (sym (q .place)) ∙ ap (drop at) e ∙ drop-at (take at b) (m ++ drop (at + length m) b) at la
+    ap (λ (k : ℕ). drop k b′) (sym (q .place)) ∙ ap (drop at) e ∙ drop-at (take at b) (m ++ drop (at + length m) b) at la
     in
     let n : at + length m ≡ start + length (h ++ m) = omega (arith, q .place, length-append h m) in
     record {

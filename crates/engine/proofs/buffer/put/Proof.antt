@@ -37,11 +37,12 @@ loop-less c = omega arith
 loop-again : tie.Need-loop-again Inv-loop μ-loop
 loop-again c =
     let h = c .before .before .loop in
-    let s = c .before .before .before .args in
-    ( omega arith
-    , omega arith
-    , simp length-set (h .inv .2)
-    , laws.turn (s .buf .now) (h .buf) (s .text .now) (s .at) (h .i) (h .next) (h .inv .0) (omega arith) (omega arith) (h .inv .3))
+    let s = c .before .before .before .args in (
+      omega arith,
+      omega arith,
+      simp length-set (h .inv .2),
+      laws.turn (s .buf .now) (h .buf) (s .text .now) (s .at) (h .i) (h .next) (h .inv .0) (omega arith) (omega arith) (h .inv .3),
+    )
 
 same-length : tie.Need-same-length Inv-loop μ-loop
 same-length c = c .before .loop .inv .2

@@ -5,3 +5,4 @@ pub mod Flag
 pub mod Wait
 pub mod Rewriting
 pub mod Splicing
+pub mod Matching

@@ -3,4 +3,5 @@ pub mod Put
 pub mod RefreshTimer
 pub mod Flags
 pub mod Delay
+pub mod Target
 pub mod Location

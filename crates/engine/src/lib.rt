@@ -4,3 +4,4 @@ pub mod delay;
 pub mod flags;
 mod location;
 pub mod refresh_timer;
+mod target;

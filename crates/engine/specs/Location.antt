@@ -4,6 +4,7 @@ use mathlib.Core.Bool.{Bool, cond, _&&_}
 use mathlib.Core.List.{List, [], _∷_, _++_}
 use lib.Dec.{ltb}
 use lib.ListN.{length, take, drop}
+use Rattle.text.specs.Bytes.{bytes, indexOf, indexOfText}
 
 -- a decimal digit
 abbrev pub digit : ℕ → ℕ
@@ -28,3 +29,27 @@ addressTextMax = 15
 unfoldable pub dotted : ℕ → List ℕ
 dotted a =
     decimalDot (a / 16777216 % 256) ++ decimalDot (a / 65536 % 256) ++ decimalDot (a / 256 % 256) ++ decimal (a % 256)
+
+-- the place of the first `://`
+unfoldable pub schemeEnd : List ℕ → ℕ
+schemeEnd location = indexOfText (bytes "://") location
+
+abbrev pub hasScheme : List ℕ → Bool
+hasScheme location = ltb (schemeEnd location) (length location)
+
+-- how much of what follows it goes: 'everything up to its first colon, if that is before the first slash, else up to its first slash; without a slash it all goes'
+unfoldable pub hostLength : List ℕ → ℕ
+hostLength s =
+    cond (ltb (indexOf 58 s) (indexOf 47 s) && ltb (indexOf 47 s) (length s)) (indexOf 58 s) (indexOf 47 s)
+
+-- where the host starts, and where what is kept behind it does
+abbrev pub hostStart : List ℕ → ℕ
+hostStart location = schemeEnd location + 3
+
+abbrev pub hostEnd : List ℕ → ℕ
+hostEnd location = hostStart location + hostLength (drop (hostStart location) location)
+
+-- `rewrite_host`: 'no `://`, unchanged. Otherwise' the host goes, and 'the dotted address takes that place'
+unfoldable pub rewritten : List ℕ → ℕ → List ℕ
+rewritten location address =
+    cond (hasScheme location) (take (hostStart location) location ++ dotted address ++ drop (hostEnd location) location) location

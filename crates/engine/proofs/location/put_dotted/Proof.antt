@@ -39,8 +39,10 @@ returns : tie.Need-returns
 unfolding dotted
 returns c =
     let room = c .before .before .before .before .before .before .before .before .before .before .before .before .before .before .before .before .before .pre in
-    let fits : c .before .before .before .before .before .before .before .before .before .before .before .before .before .before .before .before .before .args .at ≤ length (c .before .before .before .before .before .before .before .before .before .before .before .before .before .before .before .before .before .args .buf .now) = omega (arith, room) in
-    behind fits (behind fits (behind fits (c .before .before .before .before .before .before .before .before .before .before .before .before .before .before .put-decimal-dot .ensures .0) (c .before .before .before .before .before .before .before .before .before .before .put-decimal-dot2 .ensures .0)) (c .before .before .before .before .before .before .put-decimal-dot3 .ensures .0)) (c .before .before .put-decimal .ensures .0)
+    let fits : c .before .before .before .before .before .before .before .before .before .before .before .before .before .before .before .before .before .args .at ≤ length (c .before .before .before .before .before .before .before .before .before .before .before .before .before .before .before .before .before .args .buf .now) = omega (arith, room) in (
+      behind fits (behind fits (behind fits (c .before .before .before .before .before .before .before .before .before .before .before .before .before .before .put-decimal-dot .ensures .0) (c .before .before .before .before .before .before .before .before .before .before .put-decimal-dot2 .ensures .0)) (c .before .before .before .before .before .before .put-decimal-dot3 .ensures .0)) (c .before .before .put-decimal .ensures .0),
+      omega (arith, c .before .before .put-decimal .ensures .1, c .before .before .before .before .before .before .put-decimal-dot3 .ensures .1, c .before .before .before .before .before .before .before .before .before .before .put-decimal-dot2 .ensures .1, c .before .before .before .before .before .before .before .before .before .before .before .before .before .before .put-decimal-dot .ensures .1),
+    )
 
 pub put-dotted-spec : {M : Type 1} → statement M
 put-dotted-spec =

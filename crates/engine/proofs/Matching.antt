@@ -18,7 +18,7 @@ use Rattle.text.specs.declared.number.Number.{Number}
 use Rattle.text.specs.declared.number.Number.the-variants.{Value, Invalid}
 use Rattle.text.proofs.Comparing.{equal-is, equal-refl}
 use Rattle.engine.specs.Target.{ssdpAll, colon, lastColon, hasColon, basePart, version, atLeast, versionMatch, targetMatch}
-use Rattle.engine.proofs.Splicing.{plain, allPlain, splice-end}
+use Rattle.engine.proofs.Splicing.{plain, allPlain, Plain, splice-end}
 
 -- numbers that the code has found
 pub at-least-of : (w o : Number) (a b : ℕ) → w ≡ Value a → o ≡ Value b → leb a b ≡ atLeast w o
@@ -62,10 +62,6 @@ unfolding targetMatch
 match-all t = rw (equal-refl ssdpAll)
 
 -- a number has plain bytes, one or more
-record Plain (s : List ℕ) : Type 0 where
-  bytes : allPlain s ≡ true
-  some : 0 < length s
-
 both-true : (a b : Bool) → (a && b) ≡ true → (a ≡ true) × (b ≡ true)
 both-true a b e = and-eq-true-iff a b .0 e
 
@@ -144,7 +140,7 @@ version-good s t e g =
     let was : goodText (basePart s ++ colon ∷ drop (lastColon t + 1) t) ≡ true =
     ap (λ (l : List ℕ). goodText (l ++ colon ∷ drop (lastColon t + 1) t)) same ∙ ap goodText (sym (split-last t (c .1))) ∙ g
     in
-    ap goodText (split-last s (c .0)) ∙ splice-end (basePart s) colon (omega arith) (drop (lastColon t + 1) t) (drop (lastColon s + 1) s) (p .bytes) (p .some) was
+    ap goodText (split-last s (c .0)) ∙ splice-end (basePart s) colon (omega arith) (drop (lastColon t + 1) t) (drop (lastColon s + 1) s) p was
 
 -- a target that matches a good type is a good text, unless it is `ssdp:all`, which is replaced by the type
 pub match-good : (s t : List ℕ) → targetMatch s t ≡ true → equal s ssdpAll ≡ false → goodText t ≡ true → goodText s ≡ true

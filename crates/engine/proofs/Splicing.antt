@@ -24,7 +24,18 @@ abbrev pub allPlain : List ℕ → Bool
 allPlain [] = true
 allPlain (b ∷ s) = plain b && allPlain s
 
-by-cond : {A : Type 0} (P : A → Type 0) (t : Bool) {x y : A} → P x → P y → P (cond t x y)
+-- one or more of them
+pub record Plain (s : List ℕ) : Type 0 where
+  pub bytes : allPlain s ≡ true
+  pub some : 0 < length s
+
+pub plain-append : (s t : List ℕ) → allPlain s ≡ true → allPlain t ≡ true → allPlain (s ++ t) ≡ true
+plain-append [] t e d = d
+plain-append (b ∷ s) t e d =
+    let h = and-eq-true-iff (plain b) (allPlain s) .0 e in
+    and-eq-true-iff (plain b) (allPlain (s ++ t)) .1 (h .0, plain-append s t (h .1) d)
+
+pub by-cond : {A : Type 0} (P : A → Type 0) (t : Bool) {x y : A} → P x → P y → P (cond t x y)
 by-cond P true p q = p
 by-cond P false p q = q
 
@@ -297,22 +308,22 @@ module _ (p : List ℕ) (x : ℕ) (ascii : x < 128) where
       )
 
   -- plain bytes in place of all that stands behind an ASCII byte
-  pub splice-end : (m m′ : List ℕ) → allPlain m′ ≡ true → 0 < length m′ → goodText (p ++ x ∷ m) ≡ true → goodText (p ++ x ∷ m′) ≡ true
-  splice-end m m′ e some g =
-      exchanged m m′ g (utf8-all m′ e) (lacks-plain 10 m′ (omega arith) e) (lacks-plain 13 m′ (omega arith) e)
-      (ap trailing (sym (joins m′)) ∙ trailing-plain (p ++ (x ∷ [])) m′ some e)
+  pub splice-end : (m m′ : List ℕ) → Plain m′ → goodText (p ++ x ∷ m) ≡ true → goodText (p ++ x ∷ m′) ≡ true
+  splice-end m m′ e g =
+      exchanged m m′ g (utf8-all m′ (e .bytes)) (lacks-plain 10 m′ (omega arith) (e .bytes)) (lacks-plain 13 m′ (omega arith) (e .bytes))
+      (ap trailing (sym (joins m′)) ∙ trailing-plain (p ++ (x ∷ [])) m′ (e .some) (e .bytes))
 
   -- plain bytes in place of what stands between two ASCII bytes
-  pub splice-middle : (m m′ : List ℕ) (y : ℕ) (q : List ℕ) → y < 128 → allPlain m′ ≡ true → goodText (p ++ x ∷ (m ++ y ∷ q)) ≡ true → goodText (p ++ x ∷ (m′ ++ y ∷ q)) ≡ true
+  pub splice-middle : (m m′ : List ℕ) (y : ℕ) (q : List ℕ) → y < 128 → Plain m′ → goodText (p ++ x ∷ (m ++ y ∷ q)) ≡ true → goodText (p ++ x ∷ (m′ ++ y ∷ q)) ≡ true
   splice-middle m m′ y q h e g =
       let was = good (p ++ x ∷ (m ++ y ∷ q)) g in
       let tail : utf8 (m ++ y ∷ q) ≡ true = and-both {a = utf8 p} {b = utf8 (m ++ y ∷ q)} (sym (utf8-at p x (m ++ y ∷ q) ascii) ∙ was .encoded) .1 in
       let end : utf8 q ≡ true = and-both {a = utf8 m} {b = utf8 q} (sym (utf8-at m y q h) ∙ tail) .1 in
       let keeps : (b : ℕ) → b < 33 → lacks b (p ++ x ∷ (m ++ y ∷ q)) ≡ true → lacks b (m′ ++ y ∷ q) ≡ true =
-      λ b small d. lacks-both b m′ (y ∷ q) (lacks-plain b m′ small e) (lacks-right b m (y ∷ q) (rest-lacks b (m ++ y ∷ q) d))
+      λ b small d. lacks-both b m′ (y ∷ q) (lacks-plain b m′ small (e .bytes)) (lacks-right b m (y ∷ q) (rest-lacks b (m ++ y ∷ q) d))
       in
       exchanged (m ++ y ∷ q) (m′ ++ y ∷ q) g
-      (utf8-plain m′ (y ∷ q) e ∙ utf8-at [] y q h ∙ utf8-none (utf8 q) ∙ end)
+      (utf8-plain m′ (y ∷ q) (e .bytes) ∙ utf8-at [] y q h ∙ utf8-none (utf8 q) ∙ end)
       (keeps 10 (omega arith) (eq-eqb _ _ (was .noLineFeed)))
       (keeps 13 (omega arith) (eq-eqb _ _ (was .noReturn)))
       (ap trailing (sym (append-assoc p (x ∷ m′) (y ∷ q)))

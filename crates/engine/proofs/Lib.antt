@@ -6,3 +6,4 @@ pub mod Wait
 pub mod Rewriting
 pub mod Splicing
 pub mod Matching
+pub mod StarCases

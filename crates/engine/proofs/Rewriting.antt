@@ -12,7 +12,9 @@ use Rattle.text.specs.Bytes.{bytes, indexOf, indexOfText, firstPlace, startsWit
 use Rattle.text.specs.Good.{goodText}
 use Rattle.text.proofs.Finding.{indexOf-le, indexOf-found}
 use Rattle.engine.proofs.Splicing.{plain, Plain, plain-append, by-cond, splice-end, splice-middle}
-use Rattle.engine.specs.Location.{digit, decimal, decimalDot, dotted, addressTextMax, schemeEnd, hasScheme, hostLength, hostStart, hostEnd, rewritten}
+use Rattle.engine.specs.Location.{digit, decimal, decimalDot, dotted, addressTextMax, schemeEnd, hasScheme, hostLength, hostStart, hostEnd, rewritten, Rewrites}
+use Rattle.engine.specs.Put.{Put, overwritten}
+use Rattle.engine.proofs.Put.{text}
 
 -- the digits of a byte, by its size
 pub decimal-one : (n : ℕ) → n < 10 → (digit (n % 10) ∷ []) ≡ decimal n
@@ -233,3 +235,16 @@ rewritten-good l a g = go (ltb (schemeEnd l) (length l)) refl
     go : (t : Bool) → ltb (schemeEnd l) (length l) ≡ t → goodText (rewritten l a) ≡ true
     go false e = ap goodText (unchanged l (schemeEnd l) refl a (ltb-false _ _ e)) ∙ g
     go true e = spliced l (ltb-true _ _ e) a g
+
+-- a buffer with room for a location and an address holds what is written over its start
+pub rewrites : {b l b′ t : List ℕ} {a r : ℕ} → length l + addressTextMax ≤ length b → Put b 0 t b′ r → t ≡ rewritten l a → Rewrites b l a b′ r
+unfolding overwritten
+rewrites {b} {l} {b′} {t} {a} {r} room p e =
+    let size : r ≡ length t = p .place ∙ omega arith in
+    let fits : length t ≤ length b = omega (arith, ap length e, rewritten-length l a) in
+    let same : length b′ ≡ length t + (length b - (0 + length t)) = ap length (p .written) ∙ (length-append t (drop (0 + length t) b) ∙ ap (λ (n : ℕ). length t + n) (length-drop (0 + length t) b)) in
+    record {
+      put = text p e;
+      inside = omega (arith, same, size);
+      front = ap (λ (n : ℕ). take n b′) size ∙ ap (take (length t)) (p .written) ∙ take-at t (drop (0 + length t) b) (length t) refl ∙ e;
+    }

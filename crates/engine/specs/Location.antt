@@ -1,9 +1,11 @@
 -- A location with another host: document 01, '`target_match` and `rewrite_host`'.
-use Prim.Native.Nat.{ℕ, _+_, _/_, _%_}
+use Prim.Native.Nat.{ℕ, _+_, _/_, _%_, _≤_}
+use mathlib.Core.Path.{_≡_}
 use mathlib.Core.Bool.{Bool, cond, _&&_}
 use mathlib.Core.List.{List, [], _∷_, _++_}
 use lib.Dec.{ltb}
 use lib.ListN.{length, take, drop}
+use Rattle.engine.specs.Put.{Put}
 use Rattle.text.specs.Bytes.{bytes, indexOf, indexOfText}
 
 -- a decimal digit
@@ -53,3 +55,9 @@ hostEnd location = hostStart location + hostLength (drop (hostStart location) lo
 unfoldable pub rewritten : List ℕ → ℕ → List ℕ
 rewritten location address =
     cond (hasScheme location) (take (hostStart location) location ++ dotted address ++ drop (hostEnd location) location) location
+
+-- the rewritten location was written over the start of a buffer: `next` is its length, and that many bytes of the buffer are the location
+pub record Rewrites (buffer location : List ℕ) (address : ℕ) (after : List ℕ) (next : ℕ) : Type 0 where
+  pub put : Put buffer 0 (rewritten location address) after next
+  pub inside : next ≤ length after
+  pub front : take next after ≡ rewritten location address

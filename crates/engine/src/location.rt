@@ -6,7 +6,7 @@ ghost use mathlib.Core.Path.{_≡_};
 ghost use Prim.Native.Nat.{_+_, _≤_, _<_};
 ghost use lib.ListN.{length, drop};
 ghost use Rattle.engine.specs.Put.{Put};
-ghost use Rattle.engine.specs.Location.{addressTextMax, decimal, decimalDot, dotted, schemeEnd, hostLength, rewritten};
+ghost use Rattle.engine.specs.Location.{addressTextMax, decimal, decimalDot, dotted, schemeEnd, hostLength, Rewrites};
 
 // A byte in decimal digits, without leading zeros.
 fn put_decimal(buf: &mut [u8], at: usize, n: u8) -> usize
@@ -78,7 +78,7 @@ fn host_end(location: &[u8], start: usize) -> usize
 // Writes a location with an address in place of its host into `buf`, and answers its length.
 pub fn rewrite_host(buf: &mut [u8], location: &[u8], address: u32) -> usize
     requires { ⌜ length (now location) + addressTextMax ≤ length (now buf) ⌝ }
-    ensures { λ r. ⌜ Put (now (buf .entry)) 0 (rewritten (now (location .entry)) address) (now (buf .exit)) r ⌝ }
+    ensures { λ r. ⌜ Rewrites (now (buf .entry)) (now (location .entry)) address (now (buf .exit)) r ⌝ }
 {
     let scheme = scheme_end(location);
     if location.len() <= scheme {

@@ -4,8 +4,8 @@ use native.Mathlib.Omega.{arith}
 use lib.ListN.{length, take, drop, length-drop}
 use lib.Seq.{length-take-le}
 use mathlib.Core.Path.{_≡_, ap, sym, _∙_}
-use Rattle.engine.proofs.Put.{text, behind}
-use Rattle.engine.proofs.Rewriting.{rest-from, scheme-room, unchanged, changed}
+use Rattle.engine.proofs.Put.{behind}
+use Rattle.engine.proofs.Rewriting.{rest-from, scheme-room, unchanged, changed, rewrites}
 use borrow.Author.Needs.{needs}
 use Rattle.engine.proofs.location.rewrite_host.Statement.{statement}
 use Rattle.engine.proofs.location.rewrite_host.Tie as tie
@@ -20,7 +20,7 @@ same-length : tie.Need-same-length
 same-length c = search needs
 
 returns : tie.Need-returns
-returns c = text (c .before .before .put .ensures) (sym (unchanged _ _ (c .before .before .before .before .before .scheme-end .ensures) _ (c .before .before .before .before .if1 .taken)))
+returns c = rewrites (c .before .before .before .before .before .before .before .before .pre) (c .before .before .put .ensures) (sym (unchanged _ _ (c .before .before .before .before .before .scheme-end .ensures) _ (c .before .before .before .before .if1 .taken)))
 
 add-start : tie.Need-add-start
 add-start c = search needs
@@ -67,7 +67,7 @@ same-length-2 c = search needs
 
 returns-2 : tie.Need-returns-2
 returns-2 c =
-    text
+    rewrites (c .before .before .before .before .before .before .before .before .before .before .before .before .before .before .before .before .before .before .before .pre)
     (behind (omega arith) (behind (omega arith) (c .before .before .before .before .before .before .before .before .before .before .before .put2 .ensures) (c .before .before .before .before .before .before .before .put-dotted .ensures .0)) (c .before .before .put3 .ensures))
     (changed _ _ (c .before .before .before .before .before .before .before .before .before .before .before .before .before .before .before .before .scheme-end .ensures) _ _ (c .before .before .before .before .before .before .before .before .before .before .before .before .before .before .before .if1 .left) (c .before .before .before .before .before .before .before .before .before .before .before .before .before .before .host-end .ensures .0))
 

@@ -1,5 +1,4 @@
 -- Laws of the engine's definitions, a file for each subject.
-pub mod Put
 pub mod Timer
 pub mod Flag
 pub mod Wait

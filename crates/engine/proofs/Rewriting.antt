@@ -13,8 +13,8 @@ use Rattle.text.specs.Good.{goodText}
 use Rattle.text.proofs.Finding.{indexOf-le, indexOf-found}
 use Rattle.engine.proofs.Splicing.{plain, Plain, plain-append, by-cond, splice-end, splice-middle}
 use Rattle.engine.specs.Location.{digit, decimal, decimalDot, dotted, addressTextMax, schemeEnd, hasScheme, hostLength, hostStart, hostEnd, rewritten, Rewrites}
-use Rattle.engine.specs.Put.{Put, overwritten}
-use Rattle.engine.proofs.Put.{text}
+use Rattle.message.specs.Put.{Put, overwritten}
+use Rattle.message.proofs.Put.{text}
 
 -- the digits of a byte, by its size
 pub decimal-one : (n : ℕ) → n < 10 → (digit (n % 10) ∷ []) ≡ decimal n

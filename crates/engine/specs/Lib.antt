@@ -1,5 +1,4 @@
 pub mod Sizes
-pub mod Put
 pub mod RefreshTimer
 pub mod Flags
 pub mod Delay

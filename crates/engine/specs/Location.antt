@@ -5,7 +5,7 @@ use mathlib.Core.Bool.{Bool, cond, _&&_}
 use mathlib.Core.List.{List, [], _∷_, _++_}
 use lib.Dec.{ltb}
 use lib.ListN.{length, take, drop}
-use Rattle.engine.specs.Put.{Put}
+use Rattle.message.specs.Put.{Put}
 use Rattle.text.specs.Bytes.{bytes, indexOf, indexOfText}
 
 -- a decimal digit

@@ -1,7 +1,7 @@
 // Writing into a lent buffer. The contract cites the message crate's specs/Put.antt.
 ghost use Prim.Native.Nat.{_+_, _≤_};
 ghost use lib.ListN.{length};
-ghost use Rattle.engine.specs.Put.{Put};
+ghost use Rattle.message.specs.Put.{Put};
 
 // Writes `text` into `buf` from `at` on and answers the place behind it.
 pub fn put(buf: &mut [u8], at: usize, text: &[u8]) -> usize

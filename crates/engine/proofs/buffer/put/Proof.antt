@@ -5,7 +5,7 @@ use Prim.Native.Nat.{ℕ, _+_, _-_, _≤_}
 use native.Mathlib.Omega.{arith}
 use lib.ListN.{length, length-set}
 use lib.Seq.{paste, paste-zero}
-use Rattle.engine.proofs.Put as laws
+use Rattle.message.proofs.Put as laws
 use Rattle.engine.proofs.buffer.put.Statement.{statement}
 use Rattle.engine.proofs.buffer.put.Tie as tie
 

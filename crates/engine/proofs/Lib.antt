@@ -1,7 +1,7 @@
 -- Laws of the engine's definitions, a file for each subject.
 pub mod Timer
-pub mod Flag
-pub mod Wait
+pub mod FlagBits
+pub mod ReplyDelay
 pub mod Rewriting
 pub mod Splicing
 pub mod Matching

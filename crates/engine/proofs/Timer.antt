@@ -1,13 +1,13 @@
 -- Laws of the refresh timer's definitions: what a period is at most, what a step keeps, and the cases of the seed's byte.
 use Prim.Native.Nat.{ℕ, _+_, _*_, _/_, _%_, _^_, _≤_, _<_}
-use mathlib.Core.Path.{_≡_, refl, ap, sym, _∙_}
+use mathlib.Core.Path.{_≡_, refl, ap, sym, subst}
 use mathlib.Core.Bool.{Bool, true, false, cond}
 use native.Mathlib.Omega.{arith}
-use borrow.Author.Tests.{eq-eqb, ne-eqb, lt-ltb, le-ltb, le-leb, lt-leb}
+use borrow.Author.Tests.{eq-eqb, ne-eqb, lt-ltb, le-ltb, le-leb, lt-leb, ltb-true, ltb-false}
 use lib.Dec.{eqb, leb, ltb}
 use Rattle.engine.specs.declared.refresh_timer.RefreshTimer.{RefreshTimer}
 use Rattle.engine.specs.Sizes.{timeMax}
-use Rattle.engine.specs.RefreshTimer.{timeRefusal, seedByte, period, timerNew, timerStep, answerFor}
+use Rattle.engine.specs.RefreshTimer.{timeRefusal, seedByte, period, timerNew, timerReset, timerStep, answerFor}
 
 -- the byte in a phase whose number modulo 4 is known
 pub byte-of : (seed phase k : ℕ) → phase % 4 ≡ k → seedByte seed phase ≡ seed / 256 ^ k % 256
@@ -70,3 +70,26 @@ cond-twice false a b = refl
 pub answer-twice : (time : ℕ) (a b : RefreshTimer) → answerFor time a (answerFor time a b .timer) ≡ answerFor time a b
 unfolding answerFor
 answer-twice time a b = ap (λ (t : RefreshTimer). record { refusal = timeRefusal time; timer = t }) (cond-twice (leb time timeMax) a b)
+
+-- what holds of every timer that comes from the calls: a phase of four, and an instant that one period can follow in 64 bits
+pub record Reachable (t : RefreshTimer) : Type 0 where
+  pub phase : t .phase < 4
+  pub salvo : t .«next_salvo» ≤ timeMax + 802550
+
+pub new-reachable : (seed time : ℕ) → time ≤ timeMax → Reachable (timerNew seed time)
+unfolding timerNew
+new-reachable seed time h = record { phase = omega arith; salvo = omega arith }
+
+pub reset-reachable : (t : RefreshTimer) (time : ℕ) → time ≤ timeMax → Reachable (timerReset t time)
+unfolding timerReset
+reset-reachable t time h = new-reachable (t .«random_seed») time h
+
+pub step-reachable : (t : RefreshTimer) (time : ℕ) → time ≤ timeMax → Reachable t → Reachable (timerStep t time)
+step-reachable t time h r = go (ltb time (t .«next_salvo»)) refl
+  where
+    go : (b : Bool) → ltb time (t .«next_salvo») ≡ b → Reachable (timerStep t time)
+    go true e = subst Reachable (sym (step-early t time (ltb-true _ _ e))) r
+    go false e =
+        let due : t .«next_salvo» ≤ time = ltb-false _ _ e in
+        subst Reachable (sym (step-due t time due))
+        (record { phase = omega arith; salvo = omega (arith, period-max (t .«random_seed») (t .phase)) })

@@ -4,7 +4,7 @@ ghost use lib.ListN.{length};
 ghost use Rattle.message.specs.Put.{Put};
 
 // Writes `text` into `buf` from `at` on and answers the place behind it.
-pub fn put(buf: &mut [u8], at: usize, text: &[u8]) -> usize
+pub(crate) fn put(buf: &mut [u8], at: usize, text: &[u8]) -> usize
     requires { ⌜ at + length (now text) ≤ length (now buf) ⌝ }
     ensures { λ r. ⌜ Put (now (buf .entry)) at (now (text .entry)) (now (buf .exit)) r ⌝ }
 {

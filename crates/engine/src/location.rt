@@ -76,7 +76,7 @@ fn host_end(location: &[u8], start: usize) -> usize
 }
 
 // Writes a location with an address in place of its host into `buf`, and answers its length.
-pub fn rewrite_host(buf: &mut [u8], location: &[u8], address: u32) -> usize
+pub(crate) fn rewrite_host(buf: &mut [u8], location: &[u8], address: u32) -> usize
     requires { ⌜ length (now location) + addressTextMax ≤ length (now buf) ⌝ }
     ensures { λ r. ⌜ Rewrites (now (buf .entry)) (now (location .entry)) address (now (buf .exit)) r ⌝ }
 {

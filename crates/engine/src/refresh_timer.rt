@@ -44,7 +44,7 @@ fn period_of(seed: u32, phase: u8) -> u64
 }
 
 // One step, if the salvo is due: never more, however late the call.
-fn stepped(timer: RefreshTimer, time: u64) -> RefreshTimer
+pub(crate) fn stepped(timer: RefreshTimer, time: u64) -> RefreshTimer
     requires { ⌜ time ≤ timeMax ⌝ }
     ensures { λ r. ⌜ r ≡ timerStep timer time ⌝ }
 {
@@ -91,7 +91,7 @@ fn answer_for(time: u64, refused: RefreshTimer, accepted: RefreshTimer) -> Timer
     }
 }
 
-fn timer_at(random_seed: u32, next_salvo: u64) -> RefreshTimer
+pub(crate) fn timer_at(random_seed: u32, next_salvo: u64) -> RefreshTimer
     ensures { λ r. ⌜ r ≡ timerNew «random_seed» «next_salvo» ⌝ }
 {
     RefreshTimer {

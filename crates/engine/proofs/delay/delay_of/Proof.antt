@@ -1,7 +1,7 @@
 -- A remainder is no more than the seed, so the sum fits; the equation is the definition with the window found.
 use native.Mathlib.Omega.{arith}
 use native.Mathlib.Nat.{mod-le}
-use Rattle.engine.proofs.Wait.{delay-none, delay-some}
+use Rattle.engine.proofs.ReplyDelay.{delay-none, delay-some}
 use borrow.Author.Needs.{needs}
 use Rattle.engine.proofs.delay.delay_of.Statement.{statement}
 use Rattle.engine.proofs.delay.delay_of.Tie as tie

@@ -1,8 +1,6 @@
 -- A single flag is a power of two, and is set where the quotient by it is odd.
 use Prim.Native.Nat.{ℕ, zero, suc, _*_, _+_, _-_, _/_, _%_, _^_, _<_}
 use mathlib.Core.Path.{_≡_, ap, sym, _∙_}
-use mathlib.Core.Bool.{Bool}
-use mathlib.Core.Logic.{⊎-elim}
 use native.Mathlib.Omega.{arith}
 use lib.Dec.{eqb}
 use lib.Bits.{bitAnd, and-high}

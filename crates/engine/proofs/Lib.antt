@@ -1,4 +1,5 @@
 -- Laws of the engine's definitions, a file for each subject.
+pub mod Parts
 pub mod Timer
 pub mod FlagBits
 pub mod ReplyDelay

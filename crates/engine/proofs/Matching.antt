@@ -1,14 +1,14 @@
 -- Laws of matching targets: how the code's places and numbers give the definition, that a type matches itself, and that a target that matches a good
 -- type is a good text: its left part is the type's and its right part a number, or it is the type.
-use Prim.Native.Nat.{ℕ, zero, suc, _+_, _-_, _≤_, _<_}
-use mathlib.Core.Path.{_≡_, refl, ap, sym, _∙_, subst}
+use Prim.Native.Nat.{ℕ, suc, _+_, _-_, _≤_, _<_}
+use mathlib.Core.Path.{_≡_, refl, ap, sym, _∙_}
 use mathlib.Core.Bool.{Bool, true, false, cond, _&&_, _||_, and-eq-true-iff, false≢true, and-false}
 use mathlib.Core.List.{List, [], _∷_, _++_}
 use native.Mathlib.Omega.{arith}
 use native.Mathlib.Numerals.{add-one}
 use lib.Dec.{leb, ltb, eqb}
-use lib.ListN.{length, take, drop, getD, length-drop}
-use lib.Seq.{take-all, split-at}
+use lib.ListN.{length, take, drop, getD}
+use lib.Seq.{split-at}
 use borrow.Author.Tests.{lt-ltb, le-ltb, le-leb, ltb-true, eqb-true, leb-true}
 use Rattle.text.specs.Range.{within}
 use Rattle.text.specs.Bytes.{equal, lastIndexOf}
@@ -17,16 +17,13 @@ use Rattle.text.specs.Good.{goodText}
 use Rattle.text.specs.declared.number.Number.{Number}
 use Rattle.text.specs.declared.number.Number.the-variants.{Value, Invalid}
 use Rattle.text.proofs.Comparing.{equal-is, equal-refl}
+use Rattle.engine.proofs.Parts.{both-true, rest-from}
 use Rattle.engine.specs.Target.{ssdpAll, colon, lastColon, hasColon, basePart, version, atLeast, versionMatch, targetMatch}
 use Rattle.engine.proofs.Splicing.{plain, allPlain, Plain, splice-end}
 
 -- numbers that the code has found
 pub at-least-of : (w o : Number) (a b : ℕ) → w ≡ Value a → o ≡ Value b → leb a b ≡ atLeast w o
 at-least-of w o a b p q = rw (p, q)
-
--- a part from a place on, as the code lends it
-pub rest-from : (s : List ℕ) (n : ℕ) → take (length s - n) (drop n s) ≡ drop n s
-rest-from s n = take-all (length s - n) (drop n s) (omega (arith, length-drop n s))
 
 module _ (s t : List ℕ) where
   pub no-colon : (i : ℕ) → i ≡ lastColon s → length s ≤ i → false ≡ versionMatch s t
@@ -62,9 +59,6 @@ unfolding targetMatch
 match-all t = rw (equal-refl ssdpAll)
 
 -- a number has plain bytes, one or more
-both-true : (a b : Bool) → (a && b) ≡ true → (a ≡ true) × (b ≡ true)
-both-true a b e = and-eq-true-iff a b .0 e
-
 digit-plain : (d : ℕ) → within 48 57 d ≡ true → plain d ≡ true
 digit-plain d e =
     let h = both-true (leb 48 d) (leb d 57) e in

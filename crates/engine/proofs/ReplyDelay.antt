@@ -1,6 +1,6 @@
 -- The delay of a reply: how long it is at most, and what the code computes it from.
-use Prim.Native.Nat.{ℕ, _+_, _*_, _%_, _≤_, _<_, min}
-use mathlib.Core.Path.{_≡_, refl, ap, sym, _∙_}
+use Prim.Native.Nat.{ℕ, _+_, _%_, _≤_, _<_}
+use mathlib.Core.Path.{_≡_, ap, sym, _∙_}
 use native.Mathlib.Omega.{arith}
 use native.Mathlib.Nat.{mod-zero, mod-lt, mod-le}
 use Rattle.engine.specs.Delay.{replyExtra, window, delay}

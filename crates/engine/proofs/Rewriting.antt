@@ -6,13 +6,14 @@ use native.Mathlib.Omega.{arith}
 use mathlib.Core.Bool.{Bool, true, false, cond, _&&_, and-eq-true-iff, false≢true}
 use lib.Dec.{eqb, ltb}
 use lib.ListN.{length, getD, take, drop, length-append, length-drop, take-append-drop, drop-of-length-le}
-use lib.Seq.{take-all, take-at, split-at, drop-drop, drop-cons, length-take-le}
+use lib.Seq.{take-at, split-at, drop-drop, drop-cons, length-take-le}
 use borrow.Author.Tests.{lt-ltb, le-ltb, le-leb, ltb-true, ltb-false, eqb-true}
 use Rattle.text.specs.Bytes.{bytes, indexOf, indexOfText, firstPlace, startsWith}
 use Rattle.text.specs.Good.{goodText}
 use Rattle.text.proofs.Finding.{indexOf-le, indexOf-found}
-use Rattle.engine.proofs.Splicing.{plain, Plain, plain-append, by-cond, splice-end, splice-middle}
-use Rattle.engine.specs.Location.{digit, decimal, decimalDot, dotted, addressTextMax, schemeEnd, hasScheme, hostLength, hostStart, hostEnd, rewritten, Rewrites}
+use Rattle.engine.proofs.Parts.{by-cond, rest-from}
+use Rattle.engine.proofs.Splicing.{plain, Plain, plain-append, splice-end, splice-middle}
+use Rattle.engine.specs.Location.{digit, decimal, decimalDot, dotted, addressTextMax, schemeEnd, hostLength, hostStart, hostEnd, rewritten, Rewrites}
 use Rattle.message.specs.Put.{Put, overwritten}
 use Rattle.message.proofs.Put.{text}
 
@@ -45,10 +46,6 @@ pub host-le : (s : List ℕ) → hostLength s ≤ length s
 unfolding hostLength
 host-le s =
     by-cond (λ (n : ℕ). n ≤ length s) (ltb (indexOf 58 s) (indexOf 47 s) && ltb (indexOf 47 s) (length s)) (indexOf-le 58 s) (indexOf-le 47 s)
-
--- a part from a place on, as the code lends it
-pub rest-from : (s : List ℕ) (n : ℕ) → take (length s - n) (drop n s) ≡ drop n s
-rest-from s n = take-all (length s - n) (drop n s) (omega (arith, length-drop n s))
 
 module _ (l : List ℕ) (start n : ℕ) where
   pub host-from : n ≡ hostLength (take (length l - start) (drop start l)) → start + n ≡ start + hostLength (drop start l)

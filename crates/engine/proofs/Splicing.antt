@@ -1,19 +1,20 @@
 -- A good text (refusal 4 does not meet it) stays good where plain bytes take the place of what stands between two ASCII bytes, or behind the last:
 -- no character reaches across an ASCII byte, so what is before it and what is behind it are judged apart.
-use Prim.Native.Nat.{ℕ, zero, suc, _+_, _≤_, _<_}
+use Prim.Native.Nat.{ℕ, zero, suc, _≤_, _<_}
 use mathlib.Core.Path.{_≡_, refl, ap, sym, _∙_}
-use mathlib.Core.Bool.{Bool, true, false, cond, not, _&&_, and-false, and-eq-true-iff, false≢true}
+use mathlib.Core.Bool.{Bool, true, false, cond, not, _&&_, and-false, and-eq-true-iff}
 use mathlib.Core.List.{List, [], _∷_, _++_, reverse, append-assoc, append-nil, reverse-append, reverse-cons}
 use native.Mathlib.Omega.{arith}
 use lib.Dec.{leb, eqb, eqb·suc-suc}
-use lib.ListN.{length, getD, length-append}
-use borrow.Author.Tests.{le-leb, lt-leb, eq-eqb, ne-eqb, eqb-true, eqb-false, leb-true, leb-false}
+use lib.ListN.{length, length-append}
+use borrow.Author.Tests.{le-leb, lt-leb, eq-eqb, ne-eqb, leb-true}
 use Rattle.text.specs.Range.{within}
 use Rattle.text.specs.Utf8.{leadOf, expects, rest, utf8}
 use Rattle.text.specs.Bytes.{firstPlace, headed, indexOf}
-use Rattle.text.specs.White.{whiteSpace, begins, white1, white2, white3, width, opening, closing, at, run, leading, trailing}
+use Rattle.text.specs.White.{whiteSpace, begins, white1, width, opening, closing, at, run, leading, trailing}
 use Rattle.text.specs.Good.{lacks, goodText}
 use Rattle.text.proofs.GoodText.{good}
+use Rattle.engine.proofs.Parts.{by-cond, both-true}
 use Rattle.text.specs.declared.utf8.Lead.{Lead}
 
 -- `plain` bytes: visible ASCII
@@ -34,10 +35,6 @@ plain-append [] t e d = d
 plain-append (b ∷ s) t e d =
     let h = and-eq-true-iff (plain b) (allPlain s) .0 e in
     and-eq-true-iff (plain b) (allPlain (s ++ t)) .1 (h .0, plain-append s t (h .1) d)
-
-pub by-cond : {A : Type 0} (P : A → Type 0) (t : Bool) {x y : A} → P x → P y → P (cond t x y)
-by-cond P true p q = p
-by-cond P false p q = q
 
 -- an ASCII byte is a character of its own
 ascii-lead : (x : ℕ) → x < 128 → leadOf x ≡ expects 0 0x80 0xBF
@@ -211,14 +208,11 @@ trailing-same u u′ y v h e =
     ∙ run-same closing y (closing-apart y h) (reverse v) (reverse u) (reverse u′) (ap (run closing 0) (sym (backwards u y v)) ∙ e)
 
 -- plain bytes
-and-both : {a b : Bool} → (a && b) ≡ true → (a ≡ true) × (b ≡ true)
-and-both {a} {b} e = and-eq-true-iff a b .0 e
-
 plain-from : (b : ℕ) → plain b ≡ true → 33 ≤ b
-plain-from b e = leb-true 33 b (and-both {a = leb 33 b} {b = leb b 126} e .0)
+plain-from b e = leb-true 33 b (both-true (leb 33 b) (leb b 126) e .0)
 
 plain-to : (b : ℕ) → plain b ≡ true → b ≤ 126
-plain-to b e = leb-true b 126 (and-both {a = leb 33 b} {b = leb b 126} e .1)
+plain-to b e = leb-true b 126 (both-true (leb 33 b) (leb b 126) e .1)
 
 plain-white : (b : ℕ) → plain b ≡ true → white1 b ≡ false
 unfolding whiteSpace
@@ -252,7 +246,7 @@ utf8-empty = refl
 utf8-plain : (m s : List ℕ) → allPlain m ≡ true → utf8 (m ++ s) ≡ utf8 s
 utf8-plain [] s e = refl
 utf8-plain (b ∷ m) s e =
-    let h = and-both {a = plain b} {b = allPlain m} e in
+    let h = both-true (plain b) (allPlain m) e in
     let c = plain-to b (h .0) in
     utf8-at [] b (m ++ s) (omega arith) ∙ utf8-none (utf8 (m ++ s)) ∙ utf8-plain m s (h .1)
 
@@ -262,7 +256,7 @@ utf8-all m e = ap utf8 (sym (append-nil m)) ∙ utf8-plain m [] e ∙ utf8-empty
 lacks-plain : (b : ℕ) (m : List ℕ) → b < 33 → allPlain m ≡ true → lacks b m ≡ true
 lacks-plain b [] h e = lacks-nil b
 lacks-plain b (a ∷ m) h e =
-    let g = and-both {a = plain a} {b = allPlain m} e in
+    let g = both-true (plain a) (allPlain m) e in
     let c = plain-from a (g .0) in
     lacks-cons b a m ∙ rw (ne-eqb a b (λ q. omega arith)) (lacks-plain b m h (g .1))
 
@@ -270,13 +264,13 @@ trailing-plain : (u : List ℕ) (m : List ℕ) → 0 < length m → allPlain m �
 unfolding trailing
 trailing-plain u [] h e = absurd (omega arith)
 trailing-plain u (b ∷ []) h e =
-    let g = and-both {a = plain b} {b = true} e .0 in
+    let g = both-true (plain b) true e .0 in
     let c = plain-to b g in
     ap (run closing 0) (backwards u b [])
     ∙ at-none closing (b ∷ reverse u) (closing-first b (omega arith) _ _ ∙ ap (λ (t : Bool). width t false false) (plain-white b g))
 trailing-plain u (b ∷ d ∷ m) h e =
     ap trailing (sym (append-assoc u (b ∷ []) (d ∷ m)))
-    ∙ trailing-plain (u ++ (b ∷ [])) (d ∷ m) (omega arith) (and-both {a = plain b} {b = allPlain (d ∷ m)} e .1)
+    ∙ trailing-plain (u ++ (b ∷ [])) (d ∷ m) (omega arith) (both-true (plain b) (allPlain (d ∷ m)) e .1)
 
 -- a text put together again
 module _ (p : List ℕ) (x : ℕ) (ascii : x < 128) where
@@ -297,7 +291,7 @@ module _ (p : List ℕ) (x : ℕ) (ascii : x < 128) where
   unfolding goodText
   exchanged s s′ g u l r e =
       let was = good (p ++ x ∷ s) g in
-      let front : utf8 p ≡ true = and-both {a = utf8 p} {b = utf8 s} (sym (utf8-at p x s ascii) ∙ was .encoded) .0 in
+      let front : utf8 p ≡ true = both-true (utf8 p) (utf8 s) (sym (utf8-at p x s ascii) ∙ was .encoded) .0 in
       let code : utf8 (p ++ x ∷ s′) ≡ true = utf8-at p x s′ ascii ∙ and-eq-true-iff (utf8 p) (utf8 s′) .1 (front, u) in
       rw (
         code,
@@ -317,8 +311,8 @@ module _ (p : List ℕ) (x : ℕ) (ascii : x < 128) where
   pub splice-middle : (m m′ : List ℕ) (y : ℕ) (q : List ℕ) → y < 128 → Plain m′ → goodText (p ++ x ∷ (m ++ y ∷ q)) ≡ true → goodText (p ++ x ∷ (m′ ++ y ∷ q)) ≡ true
   splice-middle m m′ y q h e g =
       let was = good (p ++ x ∷ (m ++ y ∷ q)) g in
-      let tail : utf8 (m ++ y ∷ q) ≡ true = and-both {a = utf8 p} {b = utf8 (m ++ y ∷ q)} (sym (utf8-at p x (m ++ y ∷ q) ascii) ∙ was .encoded) .1 in
-      let end : utf8 q ≡ true = and-both {a = utf8 m} {b = utf8 q} (sym (utf8-at m y q h) ∙ tail) .1 in
+      let tail : utf8 (m ++ y ∷ q) ≡ true = both-true (utf8 p) (utf8 (m ++ y ∷ q)) (sym (utf8-at p x (m ++ y ∷ q) ascii) ∙ was .encoded) .1 in
+      let end : utf8 q ≡ true = both-true (utf8 m) (utf8 q) (sym (utf8-at m y q h) ∙ tail) .1 in
       let keeps : (b : ℕ) → b < 33 → lacks b (p ++ x ∷ (m ++ y ∷ q)) ≡ true → lacks b (m′ ++ y ∷ q) ≡ true =
       λ b small d. lacks-both b m′ (y ∷ q) (lacks-plain b m′ small (e .bytes)) (lacks-right b m (y ∷ q) (rest-lacks b (m ++ y ∷ q) d))
       in

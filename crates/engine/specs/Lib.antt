@@ -3,5 +3,5 @@ pub mod RefreshTimer
 pub mod Flags
 pub mod Delay
 pub mod Target
-pub mod StarCases
 pub mod Location
+pub mod StarCases

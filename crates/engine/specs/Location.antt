@@ -6,6 +6,7 @@ use mathlib.Core.List.{List, [], _∷_, _++_}
 use lib.Dec.{ltb}
 use lib.ListN.{length, take, drop}
 use Rattle.message.specs.Put.{Put}
+use Rattle.engine.specs.Target.{colon}
 use Rattle.text.specs.Bytes.{bytes, indexOf, indexOfText}
 
 -- a decimal digit
@@ -39,10 +40,13 @@ schemeEnd location = indexOfText (bytes "://") location
 abbrev pub hasScheme : List ℕ → Bool
 hasScheme location = ltb (schemeEnd location) (length location)
 
+abbrev pub slash : ℕ
+slash = 47
+
 -- how much of what follows it goes: 'everything up to its first colon, if that is before the first slash, else up to its first slash; without a slash it all goes'
 unfoldable pub hostLength : List ℕ → ℕ
 hostLength s =
-    cond (ltb (indexOf 58 s) (indexOf 47 s) && ltb (indexOf 47 s) (length s)) (indexOf 58 s) (indexOf 47 s)
+    cond (ltb (indexOf colon s) (indexOf slash s) && ltb (indexOf slash s) (length s)) (indexOf colon s) (indexOf slash s)
 
 -- where the host starts, and where what is kept behind it does
 abbrev pub hostStart : List ℕ → ℕ

@@ -1,6 +1,6 @@
 -- The refresh timer: document 01, 'Refresh timer', and refusal 1 of 'Who can be turned away'.
 use Prim.Native.Nat.{ℕ, _+_, _*_, _/_, _%_, _^_}
-use mathlib.Core.Bool.{Bool, cond}
+use mathlib.Core.Bool.{cond}
 use lib.Dec.{leb, ltb, eqb}
 use Rattle.engine.specs.Sizes.{timeMax}
 use Rattle.engine.specs.declared.refresh_timer.RefreshTimer.{RefreshTimer}

@@ -1,6 +1,5 @@
 // How long a reply to a search waits: document 01, 'Engine and ledger'. The contract cites specs/Delay.antt.
 ghost use mathlib.Core.Path.{_≡_};
-ghost use Prim.Native.Nat.{_*_, min};
 ghost use Rattle.engine.specs.Delay.{window, delay};
 
 // What every reply waits besides, in milliseconds.

@@ -5,7 +5,8 @@ use lib.ListN.{length, take, drop, length-drop}
 use lib.Seq.{length-take-le}
 use mathlib.Core.Path.{_≡_, ap, sym, _∙_}
 use Rattle.message.proofs.Put.{behind}
-use Rattle.engine.proofs.Rewriting.{rest-from, scheme-room, unchanged, changed, rewrites}
+use Rattle.engine.proofs.Parts.{rest-from}
+use Rattle.engine.proofs.Rewriting.{scheme-room, unchanged, changed, rewrites}
 use borrow.Author.Needs.{needs}
 use Rattle.engine.proofs.location.rewrite_host.Statement.{statement}
 use Rattle.engine.proofs.location.rewrite_host.Tie as tie

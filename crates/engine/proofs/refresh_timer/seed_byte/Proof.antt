@@ -1,6 +1,5 @@
 -- Each arm knows the phase modulo 4, which fixes the power of 256 in the definition.
-use Prim.Native.Nat.{_/_, _%_, _^_}
-use mathlib.Core.Path.{sym, _∙_}
+use mathlib.Core.Path.{sym}
 use native.Mathlib.Omega.{arith}
 use Rattle.engine.proofs.Timer.{byte-of}
 use Rattle.engine.proofs.refresh_timer.seed_byte.Statement.{statement}

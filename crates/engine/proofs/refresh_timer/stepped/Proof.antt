@@ -1,9 +1,8 @@
 -- A salvo that is due has its instant at most at the call's time, so the sum with a period fits.
-use Prim.Native.Nat.{ℕ, _+_, _%_}
-use mathlib.Core.Path.{_≡_, sym, ap, _∙_}
+use mathlib.Core.Path.{sym}
 use native.Mathlib.Omega.{arith}
 use borrow.Author.Needs.{needs}
-use Rattle.engine.proofs.Timer.{period-max, step-early, step-due, stepped-to}
+use Rattle.engine.proofs.Timer.{period-max, step-early, stepped-to}
 use Rattle.engine.proofs.refresh_timer.stepped.Statement.{statement}
 use Rattle.engine.proofs.refresh_timer.stepped.Tie as tie
 

@@ -1,6 +1,4 @@
 -- What `contains` says of the two flags.
-use mathlib.Core.Path.{_∙_, ap}
-use mathlib.Core.Bool.{_&&_}
 use Rattle.engine.specs.Flags.{isUp}
 use borrow.Author.Needs.{needs}
 use Rattle.engine.proofs.flags.Flags.is_up.Statement.{statement}

@@ -1,5 +1,5 @@
 -- Both timers are made by `timer_at`.
-use mathlib.Core.Path.{refl, _∙_}
+use mathlib.Core.Path.{_∙_}
 use Rattle.engine.proofs.Timer.{answer-same}
 use borrow.Author.Needs.{needs}
 use Rattle.engine.proofs.refresh_timer.RefreshTimer.new.Statement.{statement}

@@ -1,0 +1,7 @@
+pub mod Sizes
+pub mod RefreshTimer
+pub mod Flags
+pub mod Delay
+pub mod Target
+pub mod Location
+pub mod StarCases

@@ -14,8 +14,8 @@ use Rattle.text.proofs.Finding.{indexOf-le, indexOf-found}
 use Rattle.engine.proofs.Parts.{by-cond, rest-from}
 use Rattle.engine.proofs.Splicing.{plain, Plain, plain-append, splice-end, splice-middle}
 use Rattle.engine.specs.Location.{digit, decimal, decimalDot, dotted, addressTextMax, schemeEnd, hostLength, hostStart, hostEnd, rewritten, Rewrites}
-use Rattle.message.specs.Put.{Put, overwritten}
-use Rattle.message.proofs.Put.{text}
+use Rattle.text.specs.Put.{Put, overwritten}
+use Rattle.text.proofs.Writing.{text}
 
 -- the digits of a byte, by its size
 pub decimal-one : (n : ℕ) → n < 10 → (digit (n % 10) ∷ []) ≡ decimal n

@@ -5,7 +5,7 @@ use mathlib.Core.Bool.{Bool, cond, _&&_}
 use mathlib.Core.List.{List, [], _∷_, _++_}
 use lib.Dec.{ltb}
 use lib.ListN.{length, take, drop}
-use Rattle.message.specs.Put.{Put}
+use Rattle.text.specs.Put.{Put}
 use Rattle.engine.specs.Target.{colon}
 use Rattle.text.specs.Bytes.{bytes, indexOf, indexOfText}
 

@@ -5,7 +5,7 @@ use text::bytes;
 ghost use mathlib.Core.Path.{_≡_};
 ghost use Prim.Native.Nat.{_+_, _≤_, _<_};
 ghost use lib.ListN.{length, drop};
-ghost use Rattle.message.specs.Put.{Put};
+ghost use Rattle.text.specs.Put.{Put};
 ghost use Rattle.engine.specs.Location.{addressTextMax, decimal, decimalDot, dotted, schemeEnd, hostLength, Rewrites};
 
 // A byte in decimal digits, without leading zeros.

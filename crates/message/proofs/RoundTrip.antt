@@ -6,6 +6,7 @@ use mathlib.Core.Option.{Option, none, some}
 use Prim.Native.Nat.{ℕ}
 use native.Mathlib.Omega.{arith}
 use lib.ListN.{length}
+use Rattle.text.specs.Range.{every}
 use Rattle.text.specs.Bytes.{bytes, agree, upper, indexOf, firstPlace, equal}
 use Rattle.text.specs.Good.{goodText}
 use Rattle.text.specs.Number.{number, unsigned, more, value, digits}
@@ -49,29 +50,29 @@ sound : {k v : List ℕ} → goodText k ≡ true → indexOf 58 k ≡ length k �
 sound k c v = record { key = k; noColon = c; value = v }
 
 host-sound : Sound (field "HOST" hostText)
-unfolding hostText bytes goodText utf8 rest leadOf indexOf firstPlace leading trailing run whiteSpace begins
+unfolding hostText bytes goodText utf8 rest leadOf indexOf firstPlace every leading trailing run whiteSpace begins
 host-sound = sound refl refl refl
 
 age-sound : Sound (field "CACHE-CONTROL" maxAgeText)
-unfolding maxAgeText bytes goodText utf8 rest leadOf indexOf firstPlace leading trailing run whiteSpace begins
+unfolding maxAgeText bytes goodText utf8 rest leadOf indexOf firstPlace every leading trailing run whiteSpace begins
 age-sound = sound refl refl refl
 
 server-sound : AllSound (field "SERVER" serverText ∷ bootHeaders)
-unfolding serverText bootHeaders bytes goodText utf8 rest leadOf indexOf firstPlace leading trailing run whiteSpace begins
+unfolding serverText bootHeaders bytes goodText utf8 rest leadOf indexOf firstPlace every leading trailing run whiteSpace begins
 server-sound = one-more (sound refl refl refl) no-more
 
 search-sound : (st : List ℕ) → goodText st ≡ true → AllSound (searchHeaders st)
-unfolding searchHeaders bytes goodText utf8 rest leadOf indexOf firstPlace leading trailing run whiteSpace begins
+unfolding searchHeaders bytes goodText utf8 rest leadOf indexOf firstPlace every leading trailing run whiteSpace begins
 search-sound st p =
     one-more host-sound (one-more (sound refl refl refl) (one-more (sound refl refl refl) (one-more (sound refl refl p) no-more)))
 
 response-sound : (st usn loc : List ℕ) → goodText st ≡ true → goodText usn ≡ true → goodText loc ≡ true → AllSound (responseHeaders st usn loc)
-unfolding responseHeaders bytes goodText utf8 rest leadOf indexOf firstPlace leading trailing run whiteSpace begins
+unfolding responseHeaders bytes goodText utf8 rest leadOf indexOf firstPlace every leading trailing run whiteSpace begins
 response-sound st usn loc p q r =
     one-more age-sound (one-more (sound refl refl p) (one-more (sound refl refl q) (one-more (sound refl refl r) server-sound)))
 
 notify-sound : (nt usn loc : List ℕ) → goodText nt ≡ true → goodText usn ≡ true → goodText loc ≡ true → AllSound (notifyHeaders nt usn loc)
-unfolding notifyHeaders bytes goodText utf8 rest leadOf indexOf firstPlace leading trailing run whiteSpace begins
+unfolding notifyHeaders bytes goodText utf8 rest leadOf indexOf firstPlace every leading trailing run whiteSpace begins
 notify-sound nt usn loc p q r =
     one-more host-sound
     (one-more age-sound
@@ -79,22 +80,22 @@ notify-sound nt usn loc p q r =
     (one-more (sound refl refl p) (one-more (sound refl refl refl) (one-more (sound refl refl q) server-sound)))))
 
 byebye-sound : (nt usn : List ℕ) → goodText nt ≡ true → goodText usn ≡ true → AllSound (byebyeHeaders nt usn)
-unfolding byebyeHeaders bytes goodText utf8 rest leadOf indexOf firstPlace leading trailing run whiteSpace begins
+unfolding byebyeHeaders bytes goodText utf8 rest leadOf indexOf firstPlace every leading trailing run whiteSpace begins
 byebye-sound nt usn p q =
     one-more host-sound
     (one-more age-sound (one-more (sound refl refl p) (one-more (sound refl refl refl) (one-more (sound refl refl q) server-sound))))
 
 -- first lines are good texts, and differ
 notify-start : goodText notifyLine ≡ true
-unfolding notifyLine bytes goodText utf8 rest leadOf indexOf firstPlace leading trailing run whiteSpace begins
+unfolding notifyLine bytes goodText utf8 rest leadOf indexOf firstPlace every leading trailing run whiteSpace begins
 notify-start = refl
 
 response-start : goodText responseLine ≡ true
-unfolding responseLine bytes goodText utf8 rest leadOf indexOf firstPlace leading trailing run whiteSpace begins
+unfolding responseLine bytes goodText utf8 rest leadOf indexOf firstPlace every leading trailing run whiteSpace begins
 response-start = refl
 
 search-start : goodText searchLine ≡ true
-unfolding searchLine bytes goodText utf8 rest leadOf indexOf firstPlace leading trailing run whiteSpace begins
+unfolding searchLine bytes goodText utf8 rest leadOf indexOf firstPlace every leading trailing run whiteSpace begins
 search-start = refl
 
 -- three texts, each under its own name
@@ -144,7 +145,7 @@ response-back st usn loc p q r =
     ∙ three trip.response (target .text) (name .text) (location .text)
 
 search-back : (st : List ℕ) → goodText st ≡ true → read (searchText st) ≡ trip.searching st 5
-unfolding searchText searchHeaders searchLine responseLine notifyLine bytes agree upper number unsigned more value digits
+unfolding searchText searchHeaders searchLine responseLine notifyLine bytes agree upper number unsigned more value every
 search-back st p =
     let s : List ℕ = searchText st in
     let f : AllSound (searchHeaders st) = search-sound st p in

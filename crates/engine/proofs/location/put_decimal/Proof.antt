@@ -1,6 +1,6 @@
 -- Each test fixes how many digits the definition has; the part of the array that is lent computes to them.
 use native.Mathlib.Omega.{arith}
-use Rattle.message.proofs.Put.{text}
+use Rattle.text.proofs.Writing.{text}
 use Rattle.engine.proofs.Rewriting.{decimal-one, decimal-two, decimal-three}
 use borrow.Author.Needs.{needs}
 use Rattle.engine.proofs.location.put_decimal.Statement.{statement}

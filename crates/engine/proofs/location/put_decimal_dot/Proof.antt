@@ -1,6 +1,6 @@
 -- The two texts in a row.
 use native.Mathlib.Omega.{arith}
-use Rattle.message.proofs.Put.{behind}
+use Rattle.text.proofs.Writing.{behind}
 use borrow.Author.Needs.{needs}
 use Rattle.engine.proofs.location.put_decimal_dot.Statement.{statement}
 use Rattle.engine.proofs.location.put_decimal_dot.Tie as tie

@@ -2,7 +2,7 @@
 use Prim.Native.Nat.{_≤_}
 use lib.ListN.{length}
 use native.Mathlib.Omega.{arith}
-use Rattle.message.proofs.Put.{behind}
+use Rattle.text.proofs.Writing.{behind}
 use Rattle.engine.specs.Location.{dotted}
 use borrow.Author.Needs.{needs}
 use Rattle.engine.proofs.location.put_dotted.Statement.{statement}

@@ -4,7 +4,7 @@ use native.Mathlib.Omega.{arith}
 use lib.ListN.{length, take, drop, length-drop}
 use lib.Seq.{length-take-le}
 use mathlib.Core.Path.{_≡_, ap, sym, _∙_}
-use Rattle.message.proofs.Put.{behind}
+use Rattle.text.proofs.Writing.{behind}
 use Rattle.engine.proofs.Parts.{rest-from}
 use Rattle.engine.proofs.Rewriting.{scheme-room, unchanged, changed, rewrites}
 use borrow.Author.Needs.{needs}

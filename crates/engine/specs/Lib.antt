@@ -1,0 +1,17 @@
+pub mod Sizes
+pub mod Table
+pub mod RefreshTimer
+pub mod Flags
+pub mod Target
+pub mod Location
+pub mod Delay
+pub mod Held
+pub mod Calls
+pub mod Links
+pub mod Records
+pub mod Layout
+pub mod Replies
+pub mod Refusals
+pub mod Engine
+pub mod Ledger
+pub mod Claim

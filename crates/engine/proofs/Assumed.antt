@@ -1,4 +1,4 @@
--- What the claim rests on of the texts and leaves below it: laws of comparing texts, of `targetMatch` and of `rewritten`, each proved where its definition stands.
+-- What the claim rests on of the leaves below it: laws of `targetMatch` and of `rewritten`, each proved where its definition stands.
 -- They are handed in, never assumed: whoever cites the claim gives this record.
 use Prim.Native.Nat.{ℕ, _+_, _≤_}
 use mathlib.Core.Path.{_≡_}
@@ -11,8 +11,6 @@ use Rattle.engine.specs.Location.{rewritten}
 use Rattle.engine.specs.Held.{Text}
 
 pub record Laws : Type 0 where
-  pub equal-is : (s t : Text) → equal s t ≡ true → s ≡ t
-  pub equal-refl : (s : Text) → equal s s ≡ true
   -- a type matches itself; a target that matches a good type, other than `ssdp:all`, is a good text
   pub match-self : (t : Text) → targetMatch t t ≡ true
   pub match-good : (s t : Text) → targetMatch s t ≡ true → equal s ssdpAll ≡ false → goodText t ≡ true → goodText s ≡ true

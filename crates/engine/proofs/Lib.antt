@@ -4,3 +4,6 @@ pub mod Rows
 pub mod Agreement
 pub mod Balance
 pub mod Openings
+pub mod Ascending
+pub mod Orders
+pub mod Bound

@@ -1,9 +1,11 @@
 pub mod Assumed
 pub mod Members
 pub mod Rows
+pub mod Accepted
 pub mod Agreement
 pub mod Balance
 pub mod Openings
 pub mod Ascending
 pub mod Orders
 pub mod Bound
+pub mod Reachable

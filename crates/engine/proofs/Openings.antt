@@ -12,10 +12,7 @@ use Rattle.engine.specs.Calls.{Call, NewLink, DeletedLink, NewAddress, D
 use Rattle.engine.specs.Links.{contextAfter}
 use Rattle.engine.specs.Ledger.{Wait, Name, named, withWait, Change, opened, joined, searched, dueAt, timedOut, each, turn, turns, Ledger, refusalIn, Entry, entered, ifAccepted, entry, ledgerOf}
 use Rattle.engine.specs.Claim.{Opened, here, later}
-use Rattle.message.specs.Parse.{parsed}
-use Rattle.message.specs.declared.Message.{Message}
-use Rattle.message.specs.declared.Message.the-variants.{Empty, Invalid, NotifyAlive, NotifyByeBye, Search, Response}
-use Rattle.engine.specs.declared.advertisement.Endpoint.{Endpoint}
+use Rattle.engine.proofs.Accepted.{Single, single}
 use Rattle.engine.proofs.Assumed.{Laws}
 use Rattle.engine.proofs.Members.{Each, nobody, both, each-at, each-by, each-as, each-enter, each-leave}
 
@@ -54,34 +51,6 @@ each-turn : {P Q : Name → Type 0} (f : Name → Change) → ((n : Name) → Q 
 unfolding each
 each-turn f g nobody = nobody
 each-turn f g (both {a = n} q h) = both (g n q) (each-turn f g h)
-
--- at base each call does one thing to the names, or none
-abbrev Single : List Act → Type 0
-Single [] = Unit {0}
-Single (x ∷ []) = Unit {0}
-Single (x ∷ y ∷ xs) = ⊥
-
-single-asks : (now : ℕ) (sender : Endpoint) (receiver : ℕ) (s : List ℕ) (m : Message) → Single (asks now sender receiver s m)
-single-asks now sender receiver s Empty = tt
-single-asks now sender receiver s Invalid = tt
-single-asks now sender receiver s (NotifyAlive nt usn l) = tt
-single-asks now sender receiver s (NotifyByeBye nt usn) = tt
-single-asks now sender receiver s (Search st mx) = tt
-single-asks now sender receiver s (Response st usn l) = tt
-
-single : (c : Call) → Single (acts c)
-unfolding acts
-single (NewLink index flags outcome room) = tt
-single (DeletedLink index outcome) = tt
-single (NewAddress index address room) = tt
-single (DeletedAddress index address) = tt
-single (Subscribe kind room) = tt
-single (Advertise name kind location room) = tt
-single (Deadvertise name room) = tt
-single (Refresh room) = tt
-single (Datagram now sender receiver s) = single-asks now sender receiver s (parsed s)
-single (Timeout now room) = tt
-single (ResetTimer now) = tt
 
 -- ---- an accepted call
 -- a name of the list that is traced

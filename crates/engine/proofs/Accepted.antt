@@ -1,12 +1,12 @@
 -- What an accepted call has passed: every check of its list is false, so that what it brings to the names is within its sizes and a good text.
 use mathlib.Core.Path.{_≡_, refl, sym, _∙_, ap}
-use mathlib.Core.Bool.{Bool, true, false, cond, not, _&&_, _||_, true≢false}
+use mathlib.Core.Bool.{Bool, true, false, cond, not, _&&_, _||_, true≢false, false≢true}
 use mathlib.Core.List.{List, [], _∷_}
 use Prim.Native.Nat.{ℕ, zero, suc, _≤_}
 use native.Mathlib.Omega.{arith}
 use lib.Dec.{ltb, leb, eqb}
 use lib.ListN.{length}
-use borrow.Author.Tests.{ltb-false, le-leb, not-false, not-true, eqb-false}
+use borrow.Author.Tests.{ltb-false, leb-true, le-leb, not-false, not-true, eqb-false}
 use Rattle.text.specs.Good.{goodText}
 use Rattle.message.specs.Parse.{parsed, fieldAt, parseRefusal}
 use Rattle.message.specs.Build.{typeMax, nameMax}
@@ -75,8 +75,22 @@ or-false false b e = (refl, e)
 pub fits-passed : (max : ℕ) (t : Text) → over max t ≡ false → bad t ≡ false → fits max t ≡ true
 fits-passed max t o b = rw (le-leb (length t) max (ltb-false max (length t) o), not-false (goodText t) b)
 
+pub fit-length : (max : ℕ) (t : Text) → fits max t ≡ true → length t ≤ max
+fit-length max t e = leb-true (length t) max (go (leb (length t) max) e)
+  where
+    go : (b : Bool) → (b && goodText t) ≡ true → b ≡ true
+    go true e = refl
+    go false e = e
+
+pub fit-good : (max : ℕ) (t : Text) → fits max t ≡ true → goodText t ≡ true
+fit-good max t e = go (leb (length t) max) e
+  where
+    go : (b : Bool) → (b && goodText t) ≡ true → goodText t ≡ true
+    go true e = e
+    go false e = absurd (false≢true e)
+
 -- three texts, of which none is over its size and none is bad
-three-fit : (k l m : ℕ) (s t u : Text) → (over k s || over l t || over m u) ≡ false → (bad s || bad t || bad u) ≡ false →
+pub three-fit : (k l m : ℕ) (s t u : Text) → (over k s || over l t || over m u) ≡ false → (bad s || bad t || bad u) ≡ false →
     (fits k s ≡ true) × (fits l t ≡ true) × (fits m u ≡ true)
 three-fit k l m s t u o b =
     let o′ = or-false (over k s || over l t) (over m u) o in

@@ -9,3 +9,5 @@ pub mod Ascending
 pub mod Orders
 pub mod Bound
 pub mod Reachable
+pub mod Messages
+pub mod Demand3

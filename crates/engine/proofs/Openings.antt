@@ -16,12 +16,12 @@ use Rattle.engine.proofs.Accepted.{Single, single}
 use Rattle.engine.proofs.Assumed.{Laws}
 use Rattle.engine.proofs.Members.{Each, nobody, both, each-at, each-by, each-as, each-enter, each-leave}
 
-abbrev Lone : Option Wait → Type 0
-Lone none = ⊥
-Lone (some w) = w .group ≡ false
+abbrev pub LoneWait : Option Wait → Type 0
+LoneWait none = ⊥
+LoneWait (some w) = w .group ≡ false
 
 abbrev pub Traced : ℕ → ℕ → List Call → Name → Type 0
-Traced seed time cs n = Lone (n .wait) → Opened seed time cs n
+Traced seed time cs n = LoneWait (n .wait) → Opened seed time cs n
 
 -- a wait that is lone after a search joined it was lone before, and is the same
 or-left : (b c : Bool) → (b || c) ≡ false → b ≡ false
@@ -122,7 +122,7 @@ answer-matches : (laws : Laws) (b : Bool) (q : Query) (kind : Text) → targetMa
 answer-matches laws true q kind e = laws .match-self kind
 answer-matches laws false q kind e = e
 
-abbrev Answering : Text → Option Wait → Type 0
+abbrev pub Answering : Text → Option Wait → Type 0
 Answering kind none = Unit {0}
 Answering kind (some w) = targetMatch (w .answer) kind ≡ true
 

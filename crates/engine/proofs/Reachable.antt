@@ -31,11 +31,11 @@ use Rattle.engine.proofs.Assumed.{Laws}
 use Rattle.engine.proofs.Members.{Each, nobody, both, each-append, each-map, each-enter, each-leave, each-entry}
 use Rattle.engine.proofs.Ascending.{Ascending, empty, ascending-enter, ascending-leave, ascending-map, length-enter, length-enter-known, length-leave}
 use Rattle.engine.proofs.Orders.{by-name, by-number}
-use Rattle.engine.proofs.Accepted.{Passed, passed, fits-passed, Single, single, Brings, brings}
+use Rattle.engine.proofs.Accepted.{Passed, passed, fits-passed, fit-good, Single, single, Brings, brings}
 use Rattle.engine.proofs.Bound.{Few, at-few}
 
 -- the answer type of a reply that waits for one searcher
-abbrev AnswerFits : ResponseNeeded → Text → Type 0
+abbrev pub AnswerFits : ResponseNeeded → Text → Type 0
 AnswerFits None answer = Unit {0}
 AnswerFits (Multicast due) answer = Unit {0}
 AnswerFits (Unicast due sender receiver) answer = fits typeMax answer ≡ true
@@ -86,14 +86,7 @@ module _ (laws : Laws) where
   target-fits : (target kind : Text) → length target ≤ typeMax → targetMatch target kind ≡ true → fits typeMax kind ≡ true → (b : Bool) →
       equal target ssdpAll ≡ b → fits typeMax (cond b kind target) ≡ true
   target-fits target kind l m f true e = f
-  target-fits target kind l m f false e = rw (le-leb (length target) typeMax l) (laws .match-good target kind m e (good typeMax kind f))
-    where
-      good : (max : ℕ) (t : Text) → fits max t ≡ true → goodText t ≡ true
-      good max t = go (leb (length t) max)
-        where
-          go : (b : Bool) → (b && goodText t) ≡ true → goodText t ≡ true
-          go true e = e
-          go false e = absurd (true≢false (sym e))
+  target-fits target kind l m f false e = rw (le-leb (length target) typeMax l) (laws .match-good target kind m e (fit-good typeMax kind f))
 
   shared-fits : (b : Bool) (due : ℕ) (sender : Endpoint) (receiver : ℕ) (answer : Text) → fits typeMax answer ≡ true → AnswerFits (shared b due sender receiver) answer
   shared-fits true due sender receiver answer h = h

@@ -1,0 +1,150 @@
+-- The message of every record that a call sends is the built text: the build functions refuse none of the texts that a reachable engine holds or an accepted call brings.
+use mathlib.Core.Path.{_≡_, refl, sym, _∙_, ap, subst}
+use mathlib.Core.Bool.{Bool, true, false, cond, _&&_, _||_, true≢false, false≢true}
+use mathlib.Core.List.{List, [], _∷_, _++_, map}
+use Prim.Native.Nat.{ℕ, zero, suc, _+_, _≤_}
+use native.Mathlib.Omega.{arith}
+use lib.Dec.{leb}
+use lib.ListN.{length}
+use borrow.Author.Tests.{leb-true, le-leb}
+use Rattle.text.specs.Bytes.{equal}
+use Rattle.text.specs.Good.{goodText}
+use Rattle.text.proofs.Comparing.{equal-is}
+use Rattle.message.specs.Build.{typeMax, nameMax, buildLocationMax, searchText, notifyText, byebyeText, responseText}
+use Rattle.engine.specs.Sizes.{locationMax}
+use Rattle.engine.specs.Target.{ssdpAll}
+use Rattle.engine.specs.Location.{rewritten}
+use Rattle.engine.specs.Held.{Text, Context, Advertisement, Held, advertised}
+use Rattle.engine.specs.Calls.{Call, NewLink, DeletedLink, NewAddress, DeletedAddress, Subscribe, Advertise, Deadvertise, Refresh, Datagram, Timeout, ResetTimer, Enters, acts}
+use Rattle.engine.specs.Links.{addressesOf, anyUp, upAddresses, addressOf, linkAt, stores}
+use Rattle.engine.specs.Records.{Record, SearchFrom, NotifyFrom, ByeByeFrom, ResponseFrom, flat, anyAll, searchesOf, notify, searchOn, notifyOn, refreshRecords, addressRecords, replyRecords, isDue, dueRecords, salvoDue, turnsUp, records}
+use Rattle.engine.specs.Layout.{fits, messageOf}
+use Rattle.engine.specs.Refusals.{checks}
+use Rattle.engine.specs.Engine.{namesOf, turned, Step, accepted, unless, step}
+use Rattle.engine.specs.Claim.{textOf}
+use Rattle.engine.specs.declared.advertisement.Endpoint.{Endpoint}
+use Rattle.engine.specs.declared.advertisement.ResponseNeeded.{ResponseNeeded}
+use Rattle.engine.specs.declared.advertisement.ResponseNeeded.the-variants.{None, Multicast, Unicast}
+use Rattle.engine.proofs.Assumed.{Laws}
+use Rattle.engine.proofs.Members.{Each, nobody, both, each-cond, each-append, each-map, each-flat, each-entry}
+use Rattle.engine.proofs.Accepted.{Passed, passed, fits-passed, fit-length, fit-good, three-fit}
+use Rattle.engine.proofs.Reachable.{AnswerFits, Fit, Listed, Subscribed, Reachable}
+
+abbrev pub Built : Record → Type 0
+Built m = messageOf m ≡ textOf m
+
+-- ---- texts that fit
+any-fits : (ts : List Text) → Each (λ t. fits typeMax t ≡ true) ts → anyAll ts ≡ true → fits typeMax ssdpAll ≡ true
+unfolding anyAll
+any-fits [] h e = absurd (false≢true e)
+any-fits (t ∷ ts) (both f h) e = go (equal t ssdpAll) refl (any-fits ts h) e
+  where
+    go : (b : Bool) → equal t ssdpAll ≡ b → (anyAll ts ≡ true → fits typeMax ssdpAll ≡ true) → (b || anyAll ts) ≡ true → fits typeMax ssdpAll ≡ true
+    go true s k e = subst (λ (x : Text). fits typeMax x ≡ true) (equal-is t ssdpAll s) f
+    go false s k e = k e
+
+searches-fit : (ts : List Text) → Each (λ t. fits typeMax t ≡ true) ts → Each (λ t. fits typeMax t ≡ true) (searchesOf ts)
+unfolding searchesOf
+searches-fit ts h = go (anyAll ts) refl
+  where
+    go : (b : Bool) → anyAll ts ≡ b → Each (λ t. fits typeMax t ≡ true) (cond b (ssdpAll ∷ []) ts)
+    go true e = both (any-fits ts h e) nobody
+    go false e = h
+
+-- ---- one record
+search-built : (source : ℕ) (kind : Text) → fits typeMax kind ≡ true → Built (SearchFrom source kind)
+unfolding messageOf
+search-built source kind k = rw k
+
+byebye-built : (source : ℕ) (kind name : Text) → fits typeMax kind ≡ true → fits nameMax name ≡ true → Built (ByeByeFrom source kind name)
+unfolding messageOf
+byebye-built source kind name k n = rw (k, n)
+
+-- a message from each of some addresses
+from-each : (f : ℕ → Record) → ((source : ℕ) → Built (f source)) → (up : List ℕ) → Each Built (map f up)
+from-each f h [] = nobody
+from-each f h (u ∷ up) = both (h u) (from-each f h up)
+
+module _ (laws : Laws) where
+  location-fits : (location : Text) (source : ℕ) → fits locationMax location ≡ true → fits buildLocationMax (rewritten location source) ≡ true
+  location-fits location source l =
+      rw (le-leb (length (rewritten location source)) buildLocationMax (omega (arith, laws .rewritten-length location source, fit-length locationMax location l)))
+      (laws .rewritten-good location source (fit-good locationMax location l))
+
+  notify-built : (source : ℕ) (kind name location : Text) → fits typeMax kind ≡ true → fits nameMax name ≡ true → fits locationMax location ≡ true →
+      Built (NotifyFrom source kind name location)
+  unfolding messageOf
+  notify-built source kind name location k n l = rw (k, n, location-fits location source l)
+
+  response-built : (source : ℕ) (to : Endpoint) (kind name location : Text) → fits typeMax kind ≡ true → fits nameMax name ≡ true → fits locationMax location ≡ true →
+      Built (ResponseFrom source to kind name location)
+  unfolding messageOf
+  response-built source to kind name location k n l = rw (k, n, location-fits location source l)
+
+  advertised-built : (a : Advertisement) → Fit a → (source : ℕ) → Built (notify a source)
+  advertised-built a f source = notify-built source (a .kind) (a .name) (a .location) (f .kind) (f .name) (f .location)
+
+  reply-built : (up : List ℕ) (a : Advertisement) → Fit a → (d : ResponseNeeded) → AnswerFits d (a .answer) → Each Built (replyRecords up a d)
+  reply-built up a f None h = nobody
+  reply-built up a f (Multicast due) h = from-each (notify a) (advertised-built a f) up
+  reply-built up a f (Unicast due sender receiver) h = both (response-built receiver sender (a .answer) (a .name) (a .location) h (f .name) (f .location)) nobody
+
+  due-built : (now : ℕ) (up : List ℕ) (a : Advertisement) → Fit a → Each Built (dueRecords now up a)
+  unfolding dueRecords
+  due-built now up a f = each-cond (isDue now (a .needed)) (reply-built up a f (a .needed) (f .answer)) nobody
+
+  -- ---- a call
+  module _ (x : Context) (as′ : List Advertisement) (listed : Listed as′) (subscribed : Subscribed (x .subscriptions)) where
+    refresh-built : Each Built (refreshRecords x as′)
+    unfolding refreshRecords
+    refresh-built =
+        let up = upAddresses (x .links) in
+        each-append (each-flat (notifyOn up) (λ a f. from-each (notify a) (advertised-built a f) up) (listed .fit))
+        (each-flat (searchOn up) (λ t k. from-each (λ source. SearchFrom source t) (λ source. search-built source t k) up)
+        (searches-fit (x .subscriptions) (subscribed .fit)))
+
+    address-built : (source : ℕ) → Each Built (addressRecords x as′ source)
+    unfolding addressRecords
+    address-built source =
+        each-append (each-map (SearchFrom source) (search-built source) (searches-fit (x .subscriptions) (subscribed .fit)))
+        (each-map (λ a. notify a source) (λ a f. advertised-built a f source) (listed .fit))
+
+    addresses-built : (l : List ℕ) → Each Built (flat (addressRecords x as′) l)
+    unfolding flat
+    addresses-built [] = nobody
+    addresses-built (a ∷ l) = each-append (address-built a) (addresses-built l)
+
+  records-built : (h : Held) (c : Call) → Passed (checks (h .context) (namesOf h c) c) → Reachable h → Each Built (records (h .context) (h .advertisements) c)
+  unfolding checks records
+  records-built h (NewLink index flags outcome room) p r =
+      each-cond (turnsUp index flags (h .context .links))
+      (addresses-built (h .context) (h .advertisements) (r .listed) (r .subscribed) (addressesOf (linkAt index (h .context .links)))) nobody
+  records-built h (DeletedLink index outcome) p r = nobody
+  records-built h (NewAddress index address room) p r =
+      each-cond (stores index address (h .context .links) && anyUp (linkAt index (h .context .links)))
+      (address-built (h .context) (h .advertisements) (r .listed) (r .subscribed) (addressOf address)) nobody
+  records-built h (DeletedAddress index address) p r = nobody
+  records-built h (Subscribe kind room) p r =
+      from-each (λ source. SearchFrom source kind) (λ source. search-built source kind (fits-passed typeMax kind (p .1 .0) (p .1 .1 .0))) (upAddresses (h .context .links))
+  records-built h (Advertise name kind location room) p r =
+      let t = three-fit nameMax typeMax locationMax name kind location (p .1 .0) (p .1 .1 .0) in
+      from-each (λ source. NotifyFrom source kind name location) (λ source. notify-built source kind name location (t .1) (t .0) (t .2)) (upAddresses (h .context .links))
+  records-built h (Deadvertise name room) p r =
+      each-flat (λ a. map (λ source. ByeByeFrom source (a .kind) (a .name)) (upAddresses (h .context .links)))
+      (λ a f. from-each (λ source. ByeByeFrom source (a .kind) (a .name)) (λ source. byebye-built source (a .kind) (a .name) (f .kind) (f .name)) (upAddresses (h .context .links)))
+      (each-entry advertised name (r .listed .fit))
+  records-built h (Refresh room) p r = refresh-built (h .context) (h .advertisements) (r .listed) (r .subscribed)
+  records-built h (Datagram now sender receiver s) p r = nobody
+  records-built h (Timeout now room) p r =
+      each-append (each-cond (salvoDue (h .context) now) (refresh-built (h .context) (h .advertisements) (r .listed) (r .subscribed)) nobody)
+      (each-flat (dueRecords now (upAddresses (h .context .links))) (due-built now (upAddresses (h .context .links))) (r .listed .fit))
+  records-built h (ResetTimer now) p r = nobody
+
+unless-built : (k : ℕ) (h : Held) (s : Step) → (k ≡ 0 → Each Built (s .sent)) → Each Built (unless k h s .sent)
+unless-built zero h s f = f refl
+unless-built (suc k) h s f = nobody
+
+pub step-built : Laws → (h : Held) (c : Call) → Reachable h → Each Built (step h c .sent)
+unfolding step accepted turned
+step-built laws h c r =
+    unless-built (turned h c) h (accepted h c) (λ e. records-built laws h c (passed (h .context) (namesOf h c) c e) r)

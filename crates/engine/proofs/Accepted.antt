@@ -1,10 +1,10 @@
 -- What an accepted call has passed: every check of its list is false, so that what it brings to the names is within its sizes and a good text.
-use mathlib.Core.Path.{_≡_, refl, sym, _∙_, ap}
+use mathlib.Core.Path.{_≡_, refl}
 use mathlib.Core.Bool.{Bool, true, false, cond, not, _&&_, _||_, true≢false, false≢true}
 use mathlib.Core.List.{List, [], _∷_}
-use Prim.Native.Nat.{ℕ, zero, suc, _≤_}
+use Prim.Native.Nat.{ℕ, _≤_}
 use native.Mathlib.Omega.{arith}
-use lib.Dec.{ltb, leb, eqb}
+use lib.Dec.{leb}
 use lib.ListN.{length}
 use borrow.Author.Tests.{ltb-false, leb-true, le-leb, not-false, not-true, eqb-false}
 use Rattle.text.specs.Good.{goodText}
@@ -15,7 +15,7 @@ use Rattle.message.specs.declared.Message.the-variants.{Empty, Invalid, NotifyA
 use Rattle.engine.specs.Sizes.{advertisementsMax, locationMax}
 use Rattle.engine.specs.Table.{known}
 use Rattle.engine.specs.Held.{Text, Context, Held, Advertisement, advertised}
-use Rattle.engine.specs.Calls.{Call, NewLink, DeletedLink, NewAddress, DeletedAddress, Subscribe, Advertise, Deadvertise, Refresh, Datagram, Timeout, ResetTimer, Query, Act, Enters, Leaves, Asks, Ticks, asks, acts}
+use Rattle.engine.specs.Calls.{Call, NewLink, DeletedLink, NewAddress, DeletedAddress, Subscribe, Advertise, Deadvertise, Refresh, Datagram, Timeout, ResetTimer, Act, Enters, Leaves, Asks, Ticks, asks, acts}
 use Rattle.engine.specs.Layout.{fits}
 use Rattle.engine.specs.Refusals.{Check, firstOf, Names, over, bad, searchChecks, checks, refusal}
 use Rattle.engine.specs.Engine.{namesOf, turned}

@@ -2,26 +2,23 @@
 -- and what a handle_timeout sends for its replies is what the ledger sends for its waits.
 -- The relation goes from the ledger to the engine, since a reply to the group has forgotten its sender.
 use mathlib.Core.Path.{_≡_, refl, sym, _∙_, ap, subst}
-use mathlib.Core.Bool.{Bool, true, false, cond, not, _&&_, _||_}
-use mathlib.Core.List.{List, [], _∷_, _++_, map, Forall₂ as Rows, Forall₂·nil as nil, Forall₂·cons as row}
+use mathlib.Core.Bool.{Bool, true, false, cond, not, _||_}
+use mathlib.Core.List.{List, [], _∷_, map, Forall₂ as Rows, Forall₂·nil as nil, Forall₂·cons as row}
 use mathlib.Core.Option.{Option, none, some}
 use Prim.Native.Nat.{ℕ, zero, suc, _+_}
 use native.Mathlib.Omega.{arith}
-use lib.Dec.{leb, eqb}
-use lib.ListN.{length}
 use Rattle.text.specs.Bytes.{equal, order}
 use Rattle.engine.specs.Sizes.{outboxSize}
-use Rattle.engine.specs.Table.{known, entryOf, enter, leave}
-use Rattle.engine.specs.Target.{ssdpAll, targetMatch}
+use Rattle.engine.specs.Table.{entryOf}
+use Rattle.engine.specs.Target.{targetMatch}
 use Rattle.engine.specs.Delay.{delay}
 use Rattle.engine.specs.Held.{Text, Advertisement, Context, Held, isLess, advertised}
 use Rattle.engine.specs.Calls.{Call, Query, Act, Enters, Leaves, Asks, Ticks, acts, Counts, zeros, plus}
-use Rattle.engine.specs.Links.{contextAfter}
-use Rattle.engine.specs.Records.{Record, isDue, replyRecords, dueRecords, flat}
+use Rattle.engine.specs.Records.{isDue, replyRecords, dueRecords, flat}
 use Rattle.engine.specs.Replies.{sumOf, one, waits, waiting, sameSender, shared, askedNeed, askedAnswer, asked, matchedBy, joinedBy, servedNeed, served, isAlone, isGroup, aloneAt, groupAt, Result, newcomer, result, results}
 use Rattle.engine.specs.Refusals.{Names, refusal}
 use Rattle.engine.specs.Engine.{namesOf, turned, Step, accepted, unless, step}
-use Rattle.engine.specs.Ledger.{Wait, Name, named, withWait, waitCount, waitsIn, opened, joined, searched, dueAt, sentTo, timedOut, Turn, each, turn, turns, Ledger, refusalIn, Entry, entered, ifAccepted, entry, repliesTo, ledgerRecords}
+use Rattle.engine.specs.Ledger.{Wait, Name, named, withWait, waitCount, waitsIn, joined, searched, dueAt, timedOut, Turn, each, turn, turns, Ledger, refusalIn, Entry, entered, ifAccepted, entry, repliesTo, ledgerRecords}
 use Rattle.engine.specs.Claim.{countsOf}
 use Rattle.engine.specs.declared.advertisement.Endpoint.{Endpoint}
 use Rattle.engine.specs.declared.advertisement.ResponseNeeded.{ResponseNeeded}

@@ -1,13 +1,13 @@
 -- A table that is strictly ascending in its key stays so, whatever enters or leaves; in such a table `known` is membership. How long it gets.
 -- The order is any strict total one; names in byte order and links by index are the two in use.
 use mathlib.Core.Path.{_≡_, refl, sym, _∙_, ap, subst}
-use mathlib.Core.Bool.{Bool, true, false, cond, true≢false, false≢true}
+use mathlib.Core.Bool.{Bool, true, false, cond, false≢true}
 use mathlib.Core.List.{List, [], _∷_, map, List·Memᴰ as In, List·Memᴰ·head as first, List·Memᴰ·tail as after}
-use Prim.Native.Nat.{ℕ, suc, _≤_, _<_, zero-le, suc-le-suc}
+use Prim.Native.Nat.{suc, _≤_, suc-le-suc}
 use native.Mathlib.Omega.{arith}
 use lib.ListN.{length}
-use Rattle.engine.specs.Table.{Key, known, entryOf, enter, leave}
-use Rattle.engine.proofs.Members.{Each, nobody, both, each-at, each-as, each-cond, each-enter, each-leave}
+use Rattle.engine.specs.Table.{Key, known, enter, leave}
+use Rattle.engine.proofs.Members.{Each, nobody, both, each-at, each-as, each-enter, each-leave}
 
 pub record StrictOrder {K : Type 0} (below same : K → K → Bool) : Type 0 where
   pub irreflexive : (x : K) → below x x ≡ false

@@ -1,22 +1,21 @@
 -- No call sends more than 120 records (document 01, 'Outbox'), whatever it is, on tables that are within their sizes:
 -- a salvo of 8 names and 4 searches on 6 addresses, and 8 replies to the group on as many.
-use mathlib.Core.Path.{_≡_, refl}
 use mathlib.Core.Bool.{Bool, true, false, cond, _&&_}
 use mathlib.Core.List.{List, [], _∷_, _++_, map}
-use Prim.Native.Nat.{ℕ, suc, _+_, _*_, _≤_}
+use Prim.Native.Nat.{ℕ, _*_, _≤_}
 use native.Mathlib.Nat.{suc-mul}
 use native.Mathlib.Omega.{arith}
 use lib.ListN.{length, length-append, length-map}
 use Rattle.engine.specs.Sizes.{advertisementsMax, subscriptionsMax, linksMax, addressesMax, recordsMax, recordSize, outboxSize}
-use Rattle.engine.specs.Table.{entryOf, known}
+use Rattle.engine.specs.Table.{entryOf}
 use Rattle.engine.specs.Target.{ssdpAll}
-use Rattle.engine.specs.Held.{Text, Link, Context, Advertisement, Held, advertised, byIndex}
+use Rattle.engine.specs.Held.{Text, Link, Context, Advertisement, advertised, byIndex}
 use Rattle.engine.specs.Calls.{Call, NewLink, DeletedLink, NewAddress, DeletedAddress, Subscribe, Advertise, Deadvertise, Refresh, Datagram, Timeout, ResetTimer}
 use Rattle.engine.specs.Links.{addressesOf, anyUp, upAddresses, addressOf, linkAt, stores}
-use Rattle.engine.specs.Records.{Record, SearchFrom, NotifyFrom, ByeByeFrom, flat, anyAll, searchesOf, notify, searchOn, notifyOn, refreshRecords, addressRecords, replyRecords, isDue, dueRecords, salvoDue, turnsUp, records}
+use Rattle.engine.specs.Records.{SearchFrom, NotifyFrom, ByeByeFrom, flat, anyAll, searchesOf, notify, searchOn, notifyOn, refreshRecords, addressRecords, replyRecords, isDue, dueRecords, salvoDue, turnsUp, records}
 use Rattle.engine.specs.declared.advertisement.ResponseNeeded.{ResponseNeeded}
 use Rattle.engine.specs.declared.advertisement.ResponseNeeded.the-variants.{None, Multicast, Unicast}
-use Rattle.engine.proofs.Members.{Each, nobody, both}
+use Rattle.engine.proofs.Members.{Each, both}
 
 -- tables within their sizes
 pub record Few (x : Context) (as′ : List Advertisement) : Type 0 where
@@ -75,23 +74,36 @@ module _ (x : Context) (as′ : List Advertisement) (few : Few x as′) where
   unfolding refreshRecords
   refresh-few =
       let up = upAddresses (x .links) in
-      omega (arith, length-append (flat (notifyOn up) as′) (flat (searchOn up) (searchesOf (x .subscriptions))),
-      length-flat (notifyOn up) 6 (λ a. omega (arith, length-map up (notify a), up-six)) as′,
-      length-flat (searchOn up) 6 (λ t. omega (arith, length-map up (λ source. SearchFrom source t), up-six)) (searchesOf (x .subscriptions)),
-      searches-few (x .subscriptions) (few .subscriptions), few .names)
+      omega (
+        arith,
+        length-append (flat (notifyOn up) as′) (flat (searchOn up) (searchesOf (x .subscriptions))),
+        length-flat (notifyOn up) 6 (λ a. omega (arith, length-map up (notify a), up-six)) as′,
+        length-flat (searchOn up) 6 (λ t. omega (arith, length-map up (λ source. SearchFrom source t), up-six)) (searchesOf (x .subscriptions)),
+        searches-few (x .subscriptions) (few .subscriptions),
+        few .names,
+      )
 
   address-few : (source : ℕ) → length (addressRecords x as′ source) ≤ 12
   unfolding addressRecords
   address-few source =
-      omega (arith, length-append (map (SearchFrom source) (searchesOf (x .subscriptions))) (map (λ a. notify a source) as′),
-      length-map (searchesOf (x .subscriptions)) (SearchFrom source), length-map as′ (λ a. notify a source),
-      searches-few (x .subscriptions) (few .subscriptions), few .names)
+      omega (
+        arith,
+        length-append (map (SearchFrom source) (searchesOf (x .subscriptions))) (map (λ a. notify a source) as′),
+        length-map (searchesOf (x .subscriptions)) (SearchFrom source),
+        length-map as′ (λ a. notify a source),
+        searches-few (x .subscriptions) (few .subscriptions),
+        few .names,
+      )
 
   timeout-few : (now : ℕ) → length (cond (salvoDue x now) (refreshRecords x as′) [] ++ flat (dueRecords now (upAddresses (x .links))) as′) ≤ 120
   timeout-few now =
-      omega (arith, length-append (cond (salvoDue x now) (refreshRecords x as′) []) (flat (dueRecords now (upAddresses (x .links))) as′),
-      length-cond (salvoDue x now) (refreshRecords x as′) [] 72 refresh-few (omega arith),
-      length-flat (dueRecords now (upAddresses (x .links))) 6 (λ a. due-few now (upAddresses (x .links)) a up-six) as′, few .names)
+      omega (
+        arith,
+        length-append (cond (salvoDue x now) (refreshRecords x as′) []) (flat (dueRecords now (upAddresses (x .links))) as′),
+        length-cond (salvoDue x now) (refreshRecords x as′) [] 72 refresh-few (omega arith),
+        length-flat (dueRecords now (upAddresses (x .links))) 6 (λ a. due-few now (upAddresses (x .links)) a up-six) as′,
+        few .names,
+      )
 
   entry-few : (name : Text) (l : List Advertisement) → length (entryOf advertised name l) ≤ 1
   unfolding entryOf
@@ -114,8 +126,12 @@ module _ (x : Context) (as′ : List Advertisement) (few : Few x as′) where
   records-bound (Advertise name kind location room) =
       omega (arith, length-map (upAddresses (x .links)) (λ source. NotifyFrom source kind name location), up-six)
   records-bound (Deadvertise name room) =
-      omega (arith, length-flat (λ a. map (λ source. ByeByeFrom source (a .kind) (a .name)) (upAddresses (x .links))) 6
-      (λ a. omega (arith, length-map (upAddresses (x .links)) (λ source. ByeByeFrom source (a .kind) (a .name)), up-six)) (entryOf advertised name as′), entry-few name as′)
+      omega (
+        arith,
+        length-flat (λ a. map (λ source. ByeByeFrom source (a .kind) (a .name)) (upAddresses (x .links))) 6
+            (λ a. omega (arith, length-map (upAddresses (x .links)) (λ source. ByeByeFrom source (a .kind) (a .name)), up-six)) (entryOf advertised name as′),
+        entry-few name as′,
+      )
   records-bound (Refresh room) = omega (arith, refresh-few)
   records-bound (Datagram now sender receiver s) = omega arith
   records-bound (Timeout now room) = timeout-few now

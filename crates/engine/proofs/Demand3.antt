@@ -3,22 +3,21 @@
 use mathlib.Core.Path.{_≡_, refl, sym, _∙_, ap, subst}
 use mathlib.Core.Bool.{Bool, true, false, cond}
 use mathlib.Core.List.{List, [], _∷_, _++_, map, List·Memᴰ as In, Forall₂·nil as no-rows}
-use mathlib.Core.Option.{Option, none, some}
-use Prim.Native.Nat.{ℕ, zero, suc, _+_, _≤_, _<_}
+use mathlib.Core.Option.{some}
+use Prim.Native.Nat.{ℕ, zero, suc, _≤_}
 use native.Mathlib.Omega.{arith}
 use lib.ListN.{length}
 use borrow.Author.Tests.{leb-false}
 use Rattle.engine.specs.Sizes.{recordsMax}
-use Rattle.engine.specs.Target.{targetMatch}
-use Rattle.engine.specs.Held.{Text, Context, Advertisement, Held, held, fresh}
-use Rattle.engine.specs.Calls.{Call, Timeout, Counts, acts}
+use Rattle.engine.specs.Held.{Context, Advertisement, Held, held, fresh}
+use Rattle.engine.specs.Calls.{Call, Timeout, acts}
 use Rattle.engine.specs.Links.{upAddresses}
-use Rattle.engine.specs.Records.{Record, isDue, refreshRecords, salvoDue, dueRecords, flat, records}
+use Rattle.engine.specs.Records.{Record, isDue, refreshRecords, salvoDue, records}
 use Rattle.engine.specs.Layout.{written}
 use Rattle.engine.specs.Replies.{sumOf, waiting, servedNeed, served, result, results}
 use Rattle.engine.specs.Refusals.{late, newRefusal}
 use Rattle.engine.specs.Engine.{turned, Step, accepted, unless, step, Answers, newStep, Begins}
-use Rattle.engine.specs.Ledger.{Wait, Name, waitsIn, loneReply, repliesTo, Ledger, refusalIn, Entry, entry, ledgerOf, sumsOf, ledgerRecords}
+use Rattle.engine.specs.Ledger.{Wait, Name, waitsIn, Ledger, entry, ledgerOf, sumsOf, ledgerRecords}
 use Rattle.engine.specs.Claim.{Log, new, call, countsOf, total, lastWaiting, After, timeoutRecords, Lone, Serves, Exact, Every, Claim}
 use Rattle.engine.specs.declared.advertisement.ResponseNeeded.{ResponseNeeded}
 use Rattle.engine.specs.declared.advertisement.ResponseNeeded.the-variants.{None, Multicast, Unicast}
@@ -27,7 +26,7 @@ use Rattle.engine.specs.declared.engine.Answer.{Answer}
 use Rattle.engine.specs.declared.engine.Answered.{Answered}
 use Rattle.engine.proofs.Assumed.{Laws}
 use Rattle.engine.proofs.Members.{Each, nobody, both, each-at}
-use Rattle.engine.proofs.Agreement.{Agree, Matches, SameCounts, no-counts, plus-same, same-counts, step-same, turned-same, served-same}
+use Rattle.engine.proofs.Agreement.{Agree, SameCounts, no-counts, plus-same, same-counts, step-same, turned-same, served-same}
 use Rattle.engine.proofs.Balance.{ledger-level}
 use Rattle.engine.proofs.Openings.{LoneWait, Answering, traced, opened-matches}
 use Rattle.engine.proofs.Bound.{records-bound}

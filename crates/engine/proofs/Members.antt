@@ -1,5 +1,5 @@
 -- What holds of each member of a list holds of each member of what a table's rules, `map`, `flat` and `++` make of it.
-use mathlib.Core.Path.{_≡_, refl, sym, subst}
+use mathlib.Core.Path.{refl, sym, subst}
 use mathlib.Core.Bool.{Bool, true, false, cond}
 use mathlib.Core.List.{List, [], _∷_, _++_, map, List·Memᴰ as In, List·Memᴰ·head as first, List·Memᴰ·tail as after}
 use Rattle.engine.specs.Table.{Key, entryOf, enter, leave}

@@ -1,21 +1,19 @@
 -- The message of every record that a call sends is the built text: the build functions refuse none of the texts that a reachable engine holds or an accepted call brings.
-use mathlib.Core.Path.{_≡_, refl, sym, _∙_, ap, subst}
-use mathlib.Core.Bool.{Bool, true, false, cond, _&&_, _||_, true≢false, false≢true}
-use mathlib.Core.List.{List, [], _∷_, _++_, map}
-use Prim.Native.Nat.{ℕ, zero, suc, _+_, _≤_}
+use mathlib.Core.Path.{_≡_, refl, subst}
+use mathlib.Core.Bool.{Bool, true, false, cond, _&&_, _||_, false≢true}
+use mathlib.Core.List.{List, [], _∷_, map}
+use Prim.Native.Nat.{ℕ, zero, suc}
 use native.Mathlib.Omega.{arith}
-use lib.Dec.{leb}
 use lib.ListN.{length}
-use borrow.Author.Tests.{leb-true, le-leb}
+use borrow.Author.Tests.{le-leb}
 use Rattle.text.specs.Bytes.{equal}
-use Rattle.text.specs.Good.{goodText}
 use Rattle.text.proofs.Comparing.{equal-is}
-use Rattle.message.specs.Build.{typeMax, nameMax, buildLocationMax, searchText, notifyText, byebyeText, responseText}
+use Rattle.message.specs.Build.{typeMax, nameMax, buildLocationMax}
 use Rattle.engine.specs.Sizes.{locationMax}
 use Rattle.engine.specs.Target.{ssdpAll}
 use Rattle.engine.specs.Location.{rewritten}
 use Rattle.engine.specs.Held.{Text, Context, Advertisement, Held, advertised}
-use Rattle.engine.specs.Calls.{Call, NewLink, DeletedLink, NewAddress, DeletedAddress, Subscribe, Advertise, Deadvertise, Refresh, Datagram, Timeout, ResetTimer, Enters, acts}
+use Rattle.engine.specs.Calls.{Call, NewLink, DeletedLink, NewAddress, DeletedAddress, Subscribe, Advertise, Deadvertise, Refresh, Datagram, Timeout, ResetTimer}
 use Rattle.engine.specs.Links.{addressesOf, anyUp, upAddresses, addressOf, linkAt, stores}
 use Rattle.engine.specs.Records.{Record, SearchFrom, NotifyFrom, ByeByeFrom, ResponseFrom, flat, anyAll, searchesOf, notify, searchOn, notifyOn, refreshRecords, addressRecords, replyRecords, isDue, dueRecords, salvoDue, turnsUp, records}
 use Rattle.engine.specs.Layout.{fits, messageOf}

@@ -1,16 +1,16 @@
 -- Where a lone wait comes from: in the ledger of every list, each was opened by an accepted search of the list, and its answer type matches the name's type.
 -- A wait that is still lone after a later search is the very wait that it was.
-use mathlib.Core.Path.{_≡_, refl, sym, _∙_, ap, subst}
-use mathlib.Core.Bool.{Bool, true, false, cond, not, _||_}
-use mathlib.Core.List.{List, [], _∷_, List·Memᴰ as In, List·Memᴰ·head as first, List·Memᴰ·tail as after}
+use mathlib.Core.Path.{_≡_, refl, sym, _∙_, subst}
+use mathlib.Core.Bool.{Bool, true, false, cond, _||_}
+use mathlib.Core.List.{List, [], _∷_, List·Memᴰ as In}
 use mathlib.Core.Option.{Option, none, some}
 use Prim.Native.Nat.{ℕ, zero, suc}
 use Rattle.text.specs.Bytes.{equal}
 use Rattle.engine.specs.Target.{ssdpAll, targetMatch}
 use Rattle.engine.specs.Held.{Text, Context}
-use Rattle.engine.specs.Calls.{Call, NewLink, DeletedLink, NewAddress, DeletedAddress, Subscribe, Advertise, Deadvertise, Refresh, Datagram, Timeout, ResetTimer, Query, Act, Enters, Leaves, Asks, Ticks, asks, acts}
+use Rattle.engine.specs.Calls.{Call, NewLink, DeletedLink, NewAddress, DeletedAddress, Subscribe, Advertise, Deadvertise, Refresh, Datagram, Timeout, ResetTimer, Query, Act, Enters, Leaves, Asks, Ticks, acts}
 use Rattle.engine.specs.Links.{contextAfter}
-use Rattle.engine.specs.Ledger.{Wait, Name, named, withWait, Change, opened, joined, searched, dueAt, timedOut, each, turn, turns, Ledger, refusalIn, Entry, entered, ifAccepted, entry, ledgerOf}
+use Rattle.engine.specs.Ledger.{Wait, Name, named, withWait, Change, joined, searched, dueAt, timedOut, each, turn, turns, Ledger, refusalIn, entered, ifAccepted, entry, ledgerOf}
 use Rattle.engine.specs.Claim.{Opened, here, later}
 use Rattle.engine.proofs.Accepted.{Single, single}
 use Rattle.engine.proofs.Assumed.{Laws}

@@ -1,16 +1,14 @@
 -- The two orders of the engine's tables are strict and total: byte order of names, and links by index.
 use mathlib.Core.Path.{_≡_, refl, sym, _∙_, ap, ap₂, subst}
-use mathlib.Core.Logic.{⊎-elim}
 use mathlib.Core.Bool.{Bool, true, false, cond, true≢false, false≢true}
-use mathlib.Core.List.{List, [], _∷_}
+use mathlib.Core.List.{[], _∷_}
 use Prim.Native.Nat.{ℕ, _≤_, _<_}
 use native.Mathlib.Omega.{arith}
 use lib.Dec.{eqb, ltb}
 use borrow.Author.Tests.{ltb-true, ltb-false, lt-ltb, le-ltb, eqb-true, eqb-false, eq-eqb}
 use Rattle.text.specs.Bytes.{order, equal}
 use Rattle.text.proofs.Comparing.{equal-is, equal-refl}
-use Rattle.text.specs.declared.bytes.Ordering.{Ordering}
-use Rattle.text.specs.declared.bytes.Ordering.the-variants.{Less, Equal, Greater}
+use Rattle.text.specs.declared.bytes.Ordering.the-variants.{Less, Greater}
 use Rattle.engine.specs.Held.{Text, isLess}
 use Rattle.engine.proofs.Ascending.{StrictOrder}
 

@@ -1,18 +1,17 @@
 -- What holds of every engine that came from `new` by calls: the tables are ordered and within their sizes, and every text held is good and within its size.
 -- `new` begins so, and each call, accepted or refused, keeps it.
-use mathlib.Core.Path.{_≡_, refl, sym, _∙_, ap, subst}
-use mathlib.Core.Bool.{Bool, true, false, cond, not, _&&_, _||_, true≢false}
-use mathlib.Core.List.{List, [], _∷_, _++_, map}
-use Prim.Native.Nat.{ℕ, zero, suc, _+_, _-_, _≤_, _<_}
+use mathlib.Core.Path.{_≡_, refl, sym, ap}
+use mathlib.Core.Bool.{Bool, true, false, cond, not, _&&_, true≢false}
+use mathlib.Core.List.{List, [], _∷_, _++_}
+use Prim.Native.Nat.{ℕ, zero, suc, _+_, _-_, _≤_}
 use native.Mathlib.Omega.{arith}
 use lib.Dec.{leb, eqb}
 use lib.ListN.{length, take, getD, length-append, length-map, length-take}
-use borrow.Author.Tests.{leb-true, leb-false, le-leb}
+use borrow.Author.Tests.{leb-false, le-leb}
 use Rattle.text.specs.Bytes.{equal}
-use Rattle.text.specs.Good.{goodText}
 use Rattle.message.specs.Build.{typeMax, nameMax}
 use Rattle.engine.specs.Sizes.{advertisementsMax, subscriptionsMax, linksMax, addressesMax, locationMax}
-use Rattle.engine.specs.Table.{known, entryOf, enter, leave}
+use Rattle.engine.specs.Table.{known, enter}
 use Rattle.engine.specs.Flags.{isUp, isMulticast}
 use Rattle.engine.specs.Target.{ssdpAll, targetMatch}
 use Rattle.engine.specs.Delay.{delay}
@@ -21,14 +20,14 @@ use Rattle.engine.specs.Calls.{Call, NewLink, DeletedLink, NewAddress, D
 use Rattle.engine.specs.Links.{addressesOf, anyUp, contains, lastInto, isV4, addressOf, linkAt, stores, linkWith, linkNews, addressNews, addressGone, contextAfter}
 use Rattle.engine.specs.Records.{isDue}
 use Rattle.engine.specs.Layout.{fits}
-use Rattle.engine.specs.Replies.{sameSender, shared, askedNeed, answerType, askedAnswer, hits, asked, servedNeed, served, newcomer, result, results}
-use Rattle.engine.specs.Refusals.{Names, over, bad, newMulticast, checks}
+use Rattle.engine.specs.Replies.{sameSender, shared, askedNeed, askedAnswer, hits, asked, servedNeed, served, newcomer, result, results}
+use Rattle.engine.specs.Refusals.{Names, checks}
 use Rattle.engine.specs.Engine.{namesOf, turned, Step, accepted, unless, step}
 use Rattle.engine.specs.declared.advertisement.Endpoint.{Endpoint}
 use Rattle.engine.specs.declared.advertisement.ResponseNeeded.{ResponseNeeded}
 use Rattle.engine.specs.declared.advertisement.ResponseNeeded.the-variants.{None, Multicast, Unicast}
 use Rattle.engine.proofs.Assumed.{Laws}
-use Rattle.engine.proofs.Members.{Each, nobody, both, each-append, each-map, each-enter, each-leave, each-entry}
+use Rattle.engine.proofs.Members.{Each, nobody, both, each-append, each-map, each-enter, each-leave}
 use Rattle.engine.proofs.Ascending.{Ascending, empty, ascending-enter, ascending-leave, ascending-map, length-enter, length-enter-known, length-leave}
 use Rattle.engine.proofs.Orders.{by-name, by-number}
 use Rattle.engine.proofs.Accepted.{Passed, passed, fits-passed, fit-good, Single, single, Brings, brings}

@@ -1,7 +1,7 @@
 -- Two ordered tables whose entries correspond one by one, with the same keys: what is known, found, entered and removed corresponds too.
 use mathlib.Core.Path.{_≡_, refl}
 use mathlib.Core.Bool.{Bool, true, false, cond}
-use mathlib.Core.List.{List, [], _∷_, Forall₂ as Rows, Forall₂·nil as nil, Forall₂·cons as row}
+use mathlib.Core.List.{List, Forall₂ as Rows, Forall₂·nil as nil, Forall₂·cons as row}
 use Prim.Native.Nat.{suc}
 use mathlib.Core.Path.{ap}
 use lib.ListN.{length}

@@ -3,9 +3,9 @@
 -- A list is given the latest call first, so that the calls before one are the rest of the list. `In x l` says that x stands in l.
 use Prim.Native.Nat.{ℕ, _+_, _≤_, _<_}
 use mathlib.Core.Path.{_≡_}
-use mathlib.Core.Bool.{Bool, true, false, cond}
+use mathlib.Core.Bool.{true, false, cond}
 use mathlib.Core.List.{List, [], _∷_, _++_, List·Memᴰ as In}
-use mathlib.Core.Option.{Option, none, some}
+use mathlib.Core.Option.{none, some}
 use lib.ListN.{length}
 use Rattle.message.specs.Build.{searchText, notifyText, byebyeText, responseText}
 use Rattle.engine.specs.Sizes.{recordsMax}

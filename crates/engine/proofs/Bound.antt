@@ -65,6 +65,14 @@ due-few : (now : ℕ) (up : List ℕ) (a : Advertisement) → length up ≤ 6 �
 unfolding dueRecords
 due-few now up a h = length-cond (isDue now (a .needed)) (replyRecords up a (a .needed)) [] 6 (reply-few up a (a .needed) h) (omega arith)
 
+-- a name has one entry at most
+entry-few : (name : Text) (l : List Advertisement) → length (entryOf advertised name l) ≤ 1
+unfolding entryOf
+entry-few name [] = omega arith
+entry-few name (a ∷ l) =
+    length-cond (advertised .below (a .name) name) (entryOf advertised name l) (cond (advertised .same (a .name) name) (a ∷ []) []) 1 (entry-few name l)
+    (length-cond (advertised .same (a .name) name) (a ∷ []) [] 1 (omega arith) (omega arith))
+
 -- ---- a call
 module _ (x : Context) (as′ : List Advertisement) (few : Few x as′) where
   up-six : length (upAddresses (x .links)) ≤ 6
@@ -104,13 +112,6 @@ module _ (x : Context) (as′ : List Advertisement) (few : Few x as′) where
         length-flat (dueRecords now (upAddresses (x .links))) 6 (λ a. due-few now (upAddresses (x .links)) a up-six) as′,
         few .names,
       )
-
-  entry-few : (name : Text) (l : List Advertisement) → length (entryOf advertised name l) ≤ 1
-  unfolding entryOf
-  entry-few name [] = omega arith
-  entry-few name (a ∷ l) =
-      length-cond (advertised .below (a .name) name) (entryOf advertised name l) (cond (advertised .same (a .name) name) (a ∷ []) []) 1 (entry-few name l)
-      (length-cond (advertised .same (a .name) name) (a ∷ []) [] 1 (omega arith) (omega arith))
 
   pub records-bound : (c : Call) → length (records x as′ c) ≤ recordsMax
   unfolding records

@@ -101,23 +101,6 @@ next seed time cs c e r a d =
       waiting = ap (λ (x : Answer). x .waiting) (d .answer) ∙ m .waiting;
     }
 
-module _ (laws : Laws) {New : ℕ → ℕ → Answered → Type 0} {Gives : Engine → Call → List ℕ → List ℕ → Answered → Type 0}
-    (begins : (seed time : ℕ) (r : Answered) → New seed time r → Begins seed time r)
-    (answers : (e : Engine) (c : Call) (outbox outbox′ : List ℕ) (r : Answered) → Gives e c outbox outbox′ r → Answers e c outbox outbox′ r) where
-  state : {seed time : ℕ} {cs : List Call} {as′ : List Answer} {e : Engine} → Log New Gives seed time cs as′ e → State seed time cs as′ e
-  unfolding total lastWaiting sumsOf
-  state {seed} {time} (new {r = r} h) = state-new seed time r (begins seed time r h)
-  state {seed} {time} (call {cs = cs} {as′ = as′} {e = e} {c = c} {outbox = outbox} {outbox′ = outbox′} {r = r} l h) =
-      let s = state l in
-      let d = answers e c outbox outbox′ r h in
-      let n = next seed time cs c e r (s .agree) d in
-      record {
-        agree = n .agree;
-        reachable = rw (d .engine) (reachable-step laws (held e) c (s .reachable));
-        sums = plus-same (n .counts) (s .sums);
-        waiting = n .waiting;
-      }
-
 -- ---- an accepted call
 unless-refusal : (k : ℕ) (h : Held) (s : Step) → s .answer .refusal ≡ 0 → unless k h s .answer .refusal ≡ k
 unless-refusal zero h s e = e
@@ -208,23 +191,38 @@ exact laws seed time cs c e outbox outbox′ r d a g =
       serves = λ now room p. serves laws seed time cs now room e outbox outbox′ r (subst (λ (x : Call). Answers e x outbox outbox′ r) p d) a;
     }
 
+-- ---- the list
 module _ (laws : Laws) {New : ℕ → ℕ → Answered → Type 0} {Gives : Engine → Call → List ℕ → List ℕ → Answered → Type 0}
     (begins : (seed time : ℕ) (r : Answered) → New seed time r → Begins seed time r)
     (answers : (e : Engine) (c : Call) (outbox outbox′ : List ℕ) (r : Answered) → Gives e c outbox outbox′ r → Answers e c outbox outbox′ r) where
+  state : {seed time : ℕ} {cs : List Call} {as′ : List Answer} {e : Engine} → Log New Gives seed time cs as′ e → State seed time cs as′ e
+  unfolding total lastWaiting sumsOf
+  state {seed} {time} (new {r = r} h) = state-new seed time r (begins seed time r h)
+  state {seed} {time} (call {cs = cs} {as′ = as′} {e = e} {c = c} {outbox = outbox} {outbox′ = outbox′} {r = r} l h) =
+      let s = state l in
+      let d = answers e c outbox outbox′ r h in
+      let n = next seed time cs c e r (s .agree) d in
+      record {
+        agree = n .agree;
+        reachable = rw (d .engine) (reachable-step laws (held e) c (s .reachable));
+        sums = plus-same (n .counts) (s .sums);
+        waiting = n .waiting;
+      }
+
   every : {seed time : ℕ} {cs : List Call} {as′ : List Answer} {e : Engine} → (l : Log New Gives seed time cs as′ e) → Every l
   every (new h) = tt
   every {seed} {time} (call {cs = cs} {e = e} {c = c} {outbox = outbox} {outbox′ = outbox′} {r = r} l h) =
-      let s = state laws begins answers l in
+      let s = state l in
       (exact laws seed time cs c e outbox outbox′ r (answers e c outbox outbox′ r h) (s .agree) (s .reachable), every l)
 
   -- every engine of a list is reachable
   pub reachable : {seed time : ℕ} {cs : List Call} {as′ : List Answer} {e : Engine} → Log New Gives seed time cs as′ e → Reachable (held e)
-  reachable l = state laws begins answers l .reachable
+  reachable l = state l .reachable
 
   -- DEMAND 3
   pub demand3 : {seed time : ℕ} {cs : List Call} {as′ : List Answer} {e : Engine} → (l : Log New Gives seed time cs as′ e) → Claim l
   demand3 {seed} {time} {cs} l =
-      let s = state laws begins answers l in
+      let s = state l in
       record {
         sums = same-counts (s .sums);
         waiting = s .waiting;

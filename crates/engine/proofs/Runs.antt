@@ -10,13 +10,15 @@ use Rattle.engine.specs.Calls.{Call}
 use Rattle.engine.specs.Layout.{written}
 use Rattle.engine.specs.Refusals.{newRefusal}
 use Rattle.engine.specs.Engine.{turned, Step, accepted, unless, step, Answers, newStep, Begins}
-use Rattle.engine.specs.Claim.{Log, new, call}
+use Rattle.engine.specs.Claim.{Log, new, call, Claim}
 use Rattle.engine.specs.declared.interface.Interface.{Interface}
 use Rattle.engine.specs.declared.subscription.ActiveSearch.{ActiveSearch}
 use Rattle.engine.specs.declared.advertisement.ActiveAdvertisement.{ActiveAdvertisement}
 use Rattle.engine.specs.declared.engine.Engine.{Engine}
 use Rattle.engine.specs.declared.engine.Answer.{Answer}
 use Rattle.engine.specs.declared.engine.Answered.{Answered}
+use Rattle.engine.proofs.Assumed.{Laws}
+use Rattle.engine.proofs.Demand3.{demand3}
 
 -- ---- an engine that holds what is to be held
 asLink : Link → Interface
@@ -123,3 +125,10 @@ log-of seed time (p ∷ lent) =
     let l = log-of seed time lent in
     let r = answeredBy (l .1) (p .0) in
     (r .answer ∷ l .0, r .engine, call (l .2) (answer-of (l .1) (p .0) (p .1)))
+
+-- and the claim holds of it
+pub every-list : Laws → (seed time : ℕ) (lent : List (Call × List ℕ)) →
+    (as′ : List Answer) × (e : Engine) × (l : Log Begins Answers seed time (map (λ p. p .0) lent) as′ e) × Claim l
+every-list laws seed time lent =
+    let l = log-of seed time lent in
+    (l .0, l .1, l .2, demand3 laws (λ s t r b. b) (λ e c o o′ r a. a) (l .2))

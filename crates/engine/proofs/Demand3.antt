@@ -13,7 +13,6 @@ use Rattle.engine.specs.Held.{Context, Advertisement, Held, held, fresh}
 use Rattle.engine.specs.Calls.{Call, Timeout, acts}
 use Rattle.engine.specs.Links.{upAddresses}
 use Rattle.engine.specs.Records.{Record, isDue, refreshRecords, salvoDue, records}
-use Rattle.engine.specs.Layout.{written}
 use Rattle.engine.specs.Replies.{sumOf, waiting, servedNeed, served, result, results}
 use Rattle.engine.specs.Refusals.{late, newRefusal}
 use Rattle.engine.specs.Engine.{turned, Step, accepted, unless, step, Answers, newStep, Begins}
@@ -118,13 +117,21 @@ step-accepted : (h : Held) (c : Call) → turned h c ≡ 0 → step h c ≡ acce
 unfolding step
 step-accepted h c e = unless-accepted (turned h c) h (accepted h c) e
 
-unless-bound : (k : ℕ) (h : Held) (s : Step) → s .answer .records ≤ recordsMax → unless k h s .answer .records ≤ recordsMax
+unless-bound : (k : ℕ) (h : Held) (s : Step) → length (s .sent) ≤ recordsMax → length (unless k h s .sent) ≤ recordsMax
 unless-bound zero h s e = e
 unless-bound (suc k) h s e = omega arith
 
-step-bound : (h : Held) (c : Call) → Reachable h → step h c .answer .records ≤ recordsMax
+step-bound : (h : Held) (c : Call) → Reachable h → length (step h c .sent) ≤ recordsMax
 unfolding step accepted
 step-bound h c r = unless-bound (turned h c) h (accepted h c) (records-bound (h .context) (h .advertisements) (few-of h r) c)
+
+unless-records : (k : ℕ) (h : Held) (s : Step) → s .answer .records ≡ length (s .sent) → unless k h s .answer .records ≡ length (unless k h s .sent)
+unless-records zero h s e = e
+unless-records (suc k) h s e = refl
+
+step-records : (h : Held) (c : Call) → step h c .answer .records ≡ length (step h c .sent)
+unfolding step accepted
+step-records h c = unless-records (turned h c) h (accepted h c) refl
 
 -- ---- handle_timeout: nothing is due behind it
 served-after : (b : Bool) (now : ℕ) (d : ResponseNeeded) → isDue now d ≡ b → After now (servedNeed b d)
@@ -160,35 +167,38 @@ lone laws seed time cs n w i e g =
       matching = subst (Answering (n .kind)) e (opened-matches laws seed time o);
     }
 
-serves : Laws → (seed time : ℕ) (cs : List Call) (now room : ℕ) (e : Engine) (outbox outbox′ : List ℕ) (r : Answered) →
-    Answers e (Timeout now room) outbox outbox′ r → Agree (held e) (ledgerOf seed time cs) → r .answer .refusal ≡ 0 → Serves seed time cs now e outbox outbox′ r
+serves : Laws → (seed time : ℕ) (cs : List Call) (now room : ℕ) (e : Engine) {outbox outbox′ : List ℕ} (r : Answered) →
+    Answers e (Timeout now room) outbox outbox′ r → Agree (held e) (ledgerOf seed time cs) → r .answer .refusal ≡ 0 →
+    Serves seed time cs now e r (step (held e) (Timeout now room) .sent)
 unfolding accepted
-serves laws seed time cs now room e outbox outbox′ r d a z =
+serves laws seed time cs now room e r d a z =
     let k : turned (held e) (Timeout now room) ≡ 0 =
     sym (step-refusal (held e) (Timeout now room)) ∙ sym (ap (λ (x : Answer). x .refusal) (d .answer)) ∙ z in
     let s = step-accepted (held e) (Timeout now room) k in
-    let t = sent-same now room (held e) (ledgerOf seed time cs) a in
     let f : held (r .engine) .advertisements ≡ map (served now) (held e .advertisements) =
     ap (λ (h : Held). h .advertisements) (d .engine) ∙ ap (λ (x : Step). x .after .advertisements) s ∙ accepted-timeout now room (held e) in
     record {
       none-due = each-at (rw f (all-after now (held e .advertisements)));
-      records = ap (λ (x : Answer). x .records) (d .answer) ∙ ap (λ (x : Step). x .answer .records) s ∙ ap length t;
-      bytes = d .sent ∙ ap (λ (x : Step). written (x .sent) outbox) s ∙ ap (λ (rs : List Record). written rs outbox) t;
+      records = ap (λ (x : Step). x .sent) s ∙ sent-same now room (held e) (ledgerOf seed time cs) a;
       lone = λ n w i p g _. lone laws seed time cs n w i p g;
     }
 
 -- ---- each call
 exact : Laws → (seed time : ℕ) (cs : List Call) (c : Call) (e : Engine) (outbox outbox′ : List ℕ) (r : Answered) →
-    Answers e c outbox outbox′ r → Agree (held e) (ledgerOf seed time cs) → Reachable (held e) → Exact seed time cs c e outbox outbox′ r
+    Answers e c outbox outbox′ r → Agree (held e) (ledgerOf seed time cs) → Reachable (held e) → Exact seed time cs c e outbox outbox′ r (step (held e) c .sent)
 exact laws seed time cs c e outbox outbox′ r d a g =
     let n = next seed time cs c e r a d in
     record {
       refusal = ap (λ (x : Answer). x .refusal) (d .answer) ∙ step-refusal (held e) c ∙ turned-same c (held e) (ledgerOf seed time cs) a;
       counts = same-counts (n .counts);
       waiting = n .waiting;
-      bounded = rw (d .answer) (step-bound (held e) c g);
+      bytes = d .sent;
+      records = ap (λ (x : Answer). x .records) (d .answer) ∙ step-records (held e) c;
+      bounded = step-bound (held e) c g;
       messages = each-at (step-built laws (held e) c g);
-      serves = λ now room p. serves laws seed time cs now room e outbox outbox′ r (subst (λ (x : Call). Answers e x outbox outbox′ r) p d) a;
+      serves = λ now room p z.
+          subst (λ (x : Call). Serves seed time cs now e r (step (held e) x .sent)) (sym p)
+          (serves laws seed time cs now room e r (subst (λ (x : Call). Answers e x outbox outbox′ r) p d) a z);
     }
 
 -- ---- the list

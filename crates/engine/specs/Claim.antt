@@ -76,31 +76,32 @@ pub record Lone (seed time : ℕ) (cs : List Call) (n : Name) (w : Wait) : Type 
   pub opening : Opened seed time cs n
   pub matching : targetMatch (w .answer) (n .kind) ≡ true
 
--- an accepted handle_timeout, behind the calls cs, on the engine e
-pub record Serves (seed time : ℕ) (cs : List Call) (now : ℕ) (e : Engine) (outbox outbox′ : List ℕ) (r : Answered) : Type 0 where
+-- an accepted handle_timeout, behind the calls cs, on the engine e; rs are the records that it writes
+pub record Serves (seed time : ℕ) (cs : List Call) (now : ℕ) (e : Engine) (r : Answered) (rs : List Record) : Type 0 where
   -- right after it nothing is due
   pub none-due : (a : Advertisement) → In a (held (r .engine) .advertisements) → After now (a .needed)
-  -- it writes the refresh records and those of the ledger's waits that it ended
-  pub records : r .answer .records ≡ length (timeoutRecords (ledgerOf seed time cs) (held e .advertisements) now)
-  pub bytes : outbox′ ≡ written (timeoutRecords (ledgerOf seed time cs) (held e .advertisements) now) outbox
+  -- its records are the refresh records and those of the ledger's waits that it ended
+  pub records : rs ≡ timeoutRecords (ledgerOf seed time cs) (held e .advertisements) now
   pub lone : (n : Name) (w : Wait) → In n (ledgerOf seed time cs .names) → n .wait ≡ some w → w .group ≡ false → w .due ≤ now → Lone seed time cs n w
 
--- each call
-pub record Exact (seed time : ℕ) (cs : List Call) (c : Call) (e : Engine) (outbox outbox′ : List ℕ) (r : Answered) : Type 0 where
+-- a call, behind the calls cs, on the engine e; rs are the records that it writes
+pub record Exact (seed time : ℕ) (cs : List Call) (c : Call) (e : Engine) (outbox outbox′ : List ℕ) (r : Answered) (rs : List Record) : Type 0 where
   -- it is refused by the ledger's number
   pub refusal : r .answer .refusal ≡ refusalIn (ledgerOf seed time cs) c
   -- its counts are what the ledger adds in that call, its waiting the waits that the ledger then holds
   pub counts : countsOf (r .answer) ≡ entry (ledgerOf seed time cs) c .adds
   pub waiting : r .answer .waiting ≡ waitsIn (ledgerOf seed time (c ∷ cs) .names)
-  -- it writes at most 120 records, and the message of each is the built text
-  pub bounded : r .answer .records ≤ recordsMax
-  pub messages : (m : Record) → In m (step (held e) c .sent) → messageOf m ≡ textOf m
-  pub serves : (now room : ℕ) → c ≡ Timeout now room → r .answer .refusal ≡ 0 → Serves seed time cs now e outbox outbox′ r
+  -- the outbox begins with its records, which are at most 120; the message of each is the built text
+  pub bytes : outbox′ ≡ written rs outbox
+  pub records : r .answer .records ≡ length rs
+  pub bounded : length rs ≤ recordsMax
+  pub messages : (m : Record) → In m rs → messageOf m ≡ textOf m
+  pub serves : (now room : ℕ) → c ≡ Timeout now room → r .answer .refusal ≡ 0 → Serves seed time cs now e r rs
 
 abbrev pub Every : {New : ℕ → ℕ → Answered → Type 0} {Gives : Engine → Call → List ℕ → List ℕ → Answered → Type 0} {seed time : ℕ} {cs : List Call} {as′ : List Answer} {e : Engine} →
     Log New Gives seed time cs as′ e → Type 0
 Every (new h) = Unit {0}
-Every {seed = seed} {time = time} (call {cs = cs} {e = e} {c = c} {outbox = outbox} {outbox′ = outbox′} {r = r} l h) = Exact seed time cs c e outbox outbox′ r × Every l
+Every {seed = seed} {time = time} (call {cs = cs} {e = e} {c = c} {outbox = outbox} {outbox′ = outbox′} {r = r} l h) = Exact seed time cs c e outbox outbox′ r (step (held e) c .sent) × Every l
 
 -- DEMAND 3
 pub record Claim {New : ℕ → ℕ → Answered → Type 0} {Gives : Engine → Call → List ℕ → List ℕ → Answered → Type 0} {seed time : ℕ} {cs : List Call} {as′ : List Answer} {e : Engine}

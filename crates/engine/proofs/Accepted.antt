@@ -1,22 +1,22 @@
 -- What an accepted call has passed: every check of its list is false, so that what it brings to the names is within its sizes and a good text.
 use mathlib.Core.Path.{_≡_, refl}
-use mathlib.Core.Bool.{Bool, true, false, cond, not, _&&_, _||_, true≢false, false≢true}
+use mathlib.Core.Bool.{Bool, true, false, cond, not, _&&_, _||_, true≢false}
 use mathlib.Core.List.{List, [], _∷_}
 use Prim.Native.Nat.{ℕ, _≤_}
 use native.Mathlib.Omega.{arith}
 use lib.Dec.{leb}
 use lib.ListN.{length}
-use borrow.Author.Tests.{ltb-false, leb-true, le-leb, not-false, not-true, eqb-false}
+use borrow.Author.Tests.{ltb-false, not-false, not-true, eqb-false}
 use Rattle.text.specs.Good.{goodText}
 use Rattle.message.specs.Parse.{parsed, fieldAt, parseRefusal}
-use Rattle.message.specs.Build.{typeMax, nameMax}
+use Rattle.message.specs.Build.{typeMax, nameMax, atMost}
+use Rattle.message.proofs.Sending.{Fit}
 use Rattle.message.specs.declared.Message.{Message}
 use Rattle.message.specs.declared.Message.the-variants.{Empty, Invalid, NotifyAlive, NotifyByeBye, Search, Response}
 use Rattle.engine.specs.Sizes.{advertisementsMax, locationMax}
 use Rattle.engine.specs.Table.{known}
 use Rattle.engine.specs.Held.{Text, Context, Held, Advertisement, advertised}
 use Rattle.engine.specs.Calls.{Call, NewLink, DeletedLink, NewAddress, DeletedAddress, Subscribe, Advertise, Deadvertise, Refresh, Datagram, Timeout, ResetTimer, Act, Enters, Leaves, Asks, Ticks, asks, acts}
-use Rattle.engine.specs.Layout.{fits}
 use Rattle.engine.specs.Refusals.{Check, firstOf, Names, over, bad, searchChecks, checks, refusal}
 use Rattle.engine.specs.Engine.{namesOf, turned}
 use Rattle.engine.specs.declared.advertisement.Endpoint.{Endpoint}
@@ -72,26 +72,16 @@ pub or-false : (a b : Bool) → (a || b) ≡ false → (a ≡ false) × (b ≡ f
 or-false true b e = absurd (true≢false e)
 or-false false b e = (refl, e)
 
-pub fits-passed : (max : ℕ) (t : Text) → over max t ≡ false → bad t ≡ false → fits max t ≡ true
-fits-passed max t o b = rw (le-leb (length t) max (ltb-false max (length t) o), not-false (goodText t) b)
+-- a text that the build functions take
+abbrev pub Fits : ℕ → Text → Type 0
+Fits max t = Fit (atMost max t)
 
-pub fit-length : (max : ℕ) (t : Text) → fits max t ≡ true → length t ≤ max
-fit-length max t e = leb-true (length t) max (go (leb (length t) max) e)
-  where
-    go : (b : Bool) → (b && goodText t) ≡ true → b ≡ true
-    go true e = refl
-    go false e = e
-
-pub fit-good : (max : ℕ) (t : Text) → fits max t ≡ true → goodText t ≡ true
-fit-good max t e = go (leb (length t) max) e
-  where
-    go : (b : Bool) → (b && goodText t) ≡ true → goodText t ≡ true
-    go true e = e
-    go false e = absurd (false≢true e)
+pub fits-passed : (max : ℕ) (t : Text) → over max t ≡ false → bad t ≡ false → Fits max t
+fits-passed max t o b = record { size = ltb-false max (length t) o; good = not-false (goodText t) b }
 
 -- three texts, of which none is over its size and none is bad
 pub three-fit : (k l m : ℕ) (s t u : Text) → (over k s || over l t || over m u) ≡ false → (bad s || bad t || bad u) ≡ false →
-    (fits k s ≡ true) × (fits l t ≡ true) × (fits m u ≡ true)
+    Fits k s × Fits l t × Fits m u
 three-fit k l m s t u o b =
     let o′ = or-false (over k s || over l t) (over m u) o in
     let o″ = or-false (over k s) (over l t) (o′ .0) in
@@ -130,8 +120,7 @@ single (ResetTimer now) = tt
 -- ---- what a call brings to the names
 abbrev pub Brings : List Advertisement → Act → Type 0
 Brings as′ (Enters name kind location) =
-    (fits nameMax name ≡ true) × (fits typeMax kind ≡ true) × (fits locationMax location ≡ true)
-    × ((not (known advertised name as′) && leb advertisementsMax (length as′)) ≡ false)
+    Fits nameMax name × Fits typeMax kind × Fits locationMax location × ((not (known advertised name as′) && leb advertisementsMax (length as′)) ≡ false)
 Brings as′ (Leaves name) = Unit {0}
 Brings as′ (Asks q) = length (q .target) ≤ typeMax
 Brings as′ (Ticks now) = Unit {0}

@@ -11,4 +11,4 @@ pub mod Bound
 pub mod Reachable
 pub mod Messages
 pub mod Demand3
-pub mod Runs
+pub mod EveryList

@@ -4,11 +4,10 @@ use mathlib.Core.Bool.{Bool, true, false, cond, _&&_, _||_, false≢true}
 use mathlib.Core.List.{List, [], _∷_, map}
 use Prim.Native.Nat.{ℕ, zero, suc}
 use native.Mathlib.Omega.{arith}
-use lib.ListN.{length}
-use borrow.Author.Tests.{le-leb}
 use Rattle.text.specs.Bytes.{equal}
 use Rattle.text.proofs.Comparing.{equal-is}
 use Rattle.message.specs.Build.{typeMax, nameMax, buildLocationMax}
+use Rattle.message.proofs.Sending.{AllFit, none, and, sent-message}
 use Rattle.engine.specs.Sizes.{locationMax}
 use Rattle.engine.specs.Target.{ssdpAll}
 use Rattle.engine.specs.Location.{rewritten}
@@ -16,47 +15,48 @@ use Rattle.engine.specs.Held.{Text, Context, Advertisement, Held, advert
 use Rattle.engine.specs.Calls.{Call, NewLink, DeletedLink, NewAddress, DeletedAddress, Subscribe, Advertise, Deadvertise, Refresh, Datagram, Timeout, ResetTimer}
 use Rattle.engine.specs.Links.{addressesOf, anyUp, upAddresses, addressOf, linkAt, stores}
 use Rattle.engine.specs.Records.{Record, SearchFrom, NotifyFrom, ByeByeFrom, ResponseFrom, flat, anyAll, searchesOf, notify, searchOn, notifyOn, refreshRecords, addressRecords, replyRecords, isDue, dueRecords, salvoDue, turnsUp, records}
-use Rattle.engine.specs.Layout.{fits, messageOf}
+use Rattle.engine.specs.Layout.{textsOf, textOf, messageOf}
 use Rattle.engine.specs.Refusals.{checks}
 use Rattle.engine.specs.Engine.{namesOf, turned, Step, accepted, unless, step}
-use Rattle.engine.specs.Claim.{textOf}
 use Rattle.engine.specs.declared.advertisement.Endpoint.{Endpoint}
 use Rattle.engine.specs.declared.advertisement.ResponseNeeded.{ResponseNeeded}
 use Rattle.engine.specs.declared.advertisement.ResponseNeeded.the-variants.{None, Multicast, Unicast}
 use Rattle.engine.proofs.Assumed.{Laws}
 use Rattle.engine.proofs.Members.{Each, nobody, both, each-cond, each-append, each-map, each-flat, each-entry}
-use Rattle.engine.proofs.Accepted.{Passed, passed, fits-passed, fit-length, fit-good, three-fit}
-use Rattle.engine.proofs.Reachable.{AnswerFits, Fit, Listed, Subscribed, Reachable}
+use Rattle.engine.proofs.Accepted.{Passed, passed, Fits, fits-passed, three-fit}
+use Rattle.engine.proofs.Reachable.{AnswerFits, TextsFit, Listed, Subscribed, Reachable}
 
 abbrev pub Built : Record → Type 0
 Built m = messageOf m ≡ textOf m
 
 -- ---- texts that fit
-any-fits : (ts : List Text) → Each (λ t. fits typeMax t ≡ true) ts → anyAll ts ≡ true → fits typeMax ssdpAll ≡ true
+any-fits : (ts : List Text) → Each (Fits typeMax) ts → anyAll ts ≡ true → Fits typeMax ssdpAll
 unfolding anyAll
 any-fits [] h e = absurd (false≢true e)
 any-fits (t ∷ ts) (both f h) e = go (equal t ssdpAll) refl (any-fits ts h) e
   where
-    go : (b : Bool) → equal t ssdpAll ≡ b → (anyAll ts ≡ true → fits typeMax ssdpAll ≡ true) → (b || anyAll ts) ≡ true → fits typeMax ssdpAll ≡ true
-    go true s k e = subst (λ (x : Text). fits typeMax x ≡ true) (equal-is t ssdpAll s) f
+    go : (b : Bool) → equal t ssdpAll ≡ b → (anyAll ts ≡ true → Fits typeMax ssdpAll) → (b || anyAll ts) ≡ true → Fits typeMax ssdpAll
+    go true s k e = subst (λ (x : Text). Fits typeMax x) (equal-is t ssdpAll s) f
     go false s k e = k e
 
-searches-fit : (ts : List Text) → Each (λ t. fits typeMax t ≡ true) ts → Each (λ t. fits typeMax t ≡ true) (searchesOf ts)
+searches-fit : (ts : List Text) → Each (Fits typeMax) ts → Each (Fits typeMax) (searchesOf ts)
 unfolding searchesOf
 searches-fit ts h = go (anyAll ts) refl
   where
-    go : (b : Bool) → anyAll ts ≡ b → Each (λ t. fits typeMax t ≡ true) (cond b (ssdpAll ∷ []) ts)
+    go : (b : Bool) → anyAll ts ≡ b → Each (Fits typeMax) (cond b (ssdpAll ∷ []) ts)
     go true e = both (any-fits ts h e) nobody
     go false e = h
 
 -- ---- one record
-search-built : (source : ℕ) (kind : Text) → fits typeMax kind ≡ true → Built (SearchFrom source kind)
+built : (m : Record) → AllFit (textsOf m) → Built m
 unfolding messageOf
-search-built source kind k = rw k
+built m f = sent-message (textOf m) f
 
-byebye-built : (source : ℕ) (kind name : Text) → fits typeMax kind ≡ true → fits nameMax name ≡ true → Built (ByeByeFrom source kind name)
-unfolding messageOf
-byebye-built source kind name k n = rw (k, n)
+search-built : (source : ℕ) (kind : Text) → Fits typeMax kind → Built (SearchFrom source kind)
+search-built source kind k = built (SearchFrom source kind) (and k none)
+
+byebye-built : (source : ℕ) (kind name : Text) → Fits typeMax kind → Fits nameMax name → Built (ByeByeFrom source kind name)
+byebye-built source kind name k n = built (ByeByeFrom source kind name) (and k (and n none))
 
 -- a message from each of some addresses
 from-each : (f : ℕ → Record) → ((source : ℕ) → Built (f source)) → (up : List ℕ) → Each Built (map f up)
@@ -64,30 +64,29 @@ from-each f h [] = nobody
 from-each f h (u ∷ up) = both (h u) (from-each f h up)
 
 module _ (laws : Laws) where
-  location-fits : (location : Text) (source : ℕ) → fits locationMax location ≡ true → fits buildLocationMax (rewritten location source) ≡ true
-  location-fits location source l =
-      rw (le-leb (length (rewritten location source)) buildLocationMax (omega (arith, laws .rewritten-length location source, fit-length locationMax location l)))
-      (laws .rewritten-good location source (fit-good locationMax location l))
+  location-fits : (location : Text) (source : ℕ) → Fits locationMax location → Fits buildLocationMax (rewritten location source)
+  location-fits location source l = record {
+    size = omega (arith, laws .rewritten-length location source, l .size);
+    good = laws .rewritten-good location source (l .good);
+  }
 
-  notify-built : (source : ℕ) (kind name location : Text) → fits typeMax kind ≡ true → fits nameMax name ≡ true → fits locationMax location ≡ true →
+  notify-built : (source : ℕ) (kind name location : Text) → Fits typeMax kind → Fits nameMax name → Fits locationMax location →
       Built (NotifyFrom source kind name location)
-  unfolding messageOf
-  notify-built source kind name location k n l = rw (k, n, location-fits location source l)
+  notify-built source kind name location k n l = built (NotifyFrom source kind name location) (and k (and n (and (location-fits location source l) none)))
 
-  response-built : (source : ℕ) (to : Endpoint) (kind name location : Text) → fits typeMax kind ≡ true → fits nameMax name ≡ true → fits locationMax location ≡ true →
+  response-built : (source : ℕ) (to : Endpoint) (kind name location : Text) → Fits typeMax kind → Fits nameMax name → Fits locationMax location →
       Built (ResponseFrom source to kind name location)
-  unfolding messageOf
-  response-built source to kind name location k n l = rw (k, n, location-fits location source l)
+  response-built source to kind name location k n l = built (ResponseFrom source to kind name location) (and k (and n (and (location-fits location source l) none)))
 
-  advertised-built : (a : Advertisement) → Fit a → (source : ℕ) → Built (notify a source)
+  advertised-built : (a : Advertisement) → TextsFit a → (source : ℕ) → Built (notify a source)
   advertised-built a f source = notify-built source (a .kind) (a .name) (a .location) (f .kind) (f .name) (f .location)
 
-  reply-built : (up : List ℕ) (a : Advertisement) → Fit a → (d : ResponseNeeded) → AnswerFits d (a .answer) → Each Built (replyRecords up a d)
+  reply-built : (up : List ℕ) (a : Advertisement) → TextsFit a → (d : ResponseNeeded) → AnswerFits d (a .answer) → Each Built (replyRecords up a d)
   reply-built up a f None h = nobody
   reply-built up a f (Multicast due) h = from-each (notify a) (advertised-built a f) up
   reply-built up a f (Unicast due sender receiver) h = both (response-built receiver sender (a .answer) (a .name) (a .location) h (f .name) (f .location)) nobody
 
-  due-built : (now : ℕ) (up : List ℕ) (a : Advertisement) → Fit a → Each Built (dueRecords now up a)
+  due-built : (now : ℕ) (up : List ℕ) (a : Advertisement) → TextsFit a → Each Built (dueRecords now up a)
   unfolding dueRecords
   due-built now up a f = each-cond (isDue now (a .needed)) (reply-built up a f (a .needed) (f .answer)) nobody
 

@@ -7,7 +7,7 @@ use Prim.Native.Nat.{ℕ, zero, suc, _+_, _-_, _≤_}
 use native.Mathlib.Omega.{arith}
 use lib.Dec.{leb, eqb}
 use lib.ListN.{length, take, getD, length-append, length-map, length-take}
-use borrow.Author.Tests.{leb-false, le-leb}
+use borrow.Author.Tests.{leb-false}
 use Rattle.text.specs.Bytes.{equal}
 use Rattle.message.specs.Build.{typeMax, nameMax}
 use Rattle.engine.specs.Sizes.{advertisementsMax, subscriptionsMax, linksMax, addressesMax, locationMax}
@@ -19,7 +19,6 @@ use Rattle.engine.specs.Held.{Text, Link, Context, Advertisement, Held, 
 use Rattle.engine.specs.Calls.{Call, NewLink, DeletedLink, NewAddress, DeletedAddress, Subscribe, Advertise, Deadvertise, Refresh, Datagram, Timeout, ResetTimer, Query, Act, Enters, Leaves, Asks, Ticks, acts}
 use Rattle.engine.specs.Links.{addressesOf, anyUp, contains, lastInto, isV4, addressOf, linkAt, stores, linkWith, linkNews, addressNews, addressGone, contextAfter}
 use Rattle.engine.specs.Records.{isDue}
-use Rattle.engine.specs.Layout.{fits}
 use Rattle.engine.specs.Replies.{sameSender, shared, askedNeed, askedAnswer, hits, asked, servedNeed, served, newcomer, result, results}
 use Rattle.engine.specs.Refusals.{Names, checks}
 use Rattle.engine.specs.Engine.{namesOf, turned, Step, accepted, unless, step}
@@ -30,26 +29,26 @@ use Rattle.engine.proofs.Assumed.{Laws}
 use Rattle.engine.proofs.Members.{Each, nobody, both, each-append, each-map, each-enter, each-leave}
 use Rattle.engine.proofs.Ascending.{Ascending, empty, ascending-enter, ascending-leave, ascending-map, in-known, known-in, length-enter, length-enter-known, length-leave}
 use Rattle.engine.proofs.Orders.{by-name, by-number}
-use Rattle.engine.proofs.Accepted.{Passed, passed, fits-passed, fit-good, Single, single, Brings, brings}
+use Rattle.engine.proofs.Accepted.{Passed, passed, Fits, fits-passed, Single, single, Brings, brings}
 use Rattle.engine.proofs.Bound.{Few, at-few}
 
 -- the answer type of a reply that waits for one searcher
 abbrev pub AnswerFits : ResponseNeeded → Text → Type 0
 AnswerFits None answer = Unit {0}
 AnswerFits (Multicast due) answer = Unit {0}
-AnswerFits (Unicast due sender receiver) answer = fits typeMax answer ≡ true
+AnswerFits (Unicast due sender receiver) answer = Fits typeMax answer
 
-pub record Fit (a : Advertisement) : Type 0 where
-  pub name : fits nameMax (a .name) ≡ true
-  pub kind : fits typeMax (a .kind) ≡ true
-  pub location : fits locationMax (a .location) ≡ true
+pub record TextsFit (a : Advertisement) : Type 0 where
+  pub name : Fits nameMax (a .name)
+  pub kind : Fits typeMax (a .kind)
+  pub location : Fits locationMax (a .location)
   pub answer : AnswerFits (a .needed) (a .answer)
 
 -- the advertisements: in byte order of name, at most 8, all texts fit
 pub record Listed (as′ : List Advertisement) : Type 0 where
   pub order : Ascending advertised as′
   pub few : length as′ ≤ advertisementsMax
-  pub fit : Each Fit as′
+  pub fit : Each TextsFit as′
 
 -- links by index, at most 3, each of at most 2 addresses
 pub record Linked (ls : List Link) : Type 0 where
@@ -60,7 +59,7 @@ pub record Linked (ls : List Link) : Type 0 where
 -- at most 4 subscriptions, all types fit
 pub record Subscribed (ts : List Text) : Type 0 where
   pub few : length ts ≤ subscriptionsMax
-  pub fit : Each (λ t. fits typeMax t ≡ true) ts
+  pub fit : Each (Fits typeMax) ts
 
 pub record Reachable (h : Held) : Type 0 where
   pub listed : Listed (h .advertisements)
@@ -89,23 +88,23 @@ entered-few a l false e f h = omega (arith, leb-false 8 (length l) f, length-ent
 
 -- the answer type of a search that opens a wait
 module _ (laws : Laws) where
-  target-fits : (target kind : Text) → length target ≤ typeMax → targetMatch target kind ≡ true → fits typeMax kind ≡ true → (b : Bool) →
-      equal target ssdpAll ≡ b → fits typeMax (cond b kind target) ≡ true
+  target-fits : (target kind : Text) → length target ≤ typeMax → targetMatch target kind ≡ true → Fits typeMax kind → (b : Bool) →
+      equal target ssdpAll ≡ b → Fits typeMax (cond b kind target)
   target-fits target kind l m f true e = f
-  target-fits target kind l m f false e = rw (le-leb (length target) typeMax l) (laws .match-good target kind m e (fit-good typeMax kind f))
+  target-fits target kind l m f false e = record { size = l; good = laws .match-good target kind m e (f .good) }
 
-  shared-fits : (b : Bool) (due : ℕ) (sender : Endpoint) (receiver : ℕ) (answer : Text) → fits typeMax answer ≡ true → AnswerFits (shared b due sender receiver) answer
+  shared-fits : (b : Bool) (due : ℕ) (sender : Endpoint) (receiver : ℕ) (answer : Text) → Fits typeMax answer → AnswerFits (shared b due sender receiver) answer
   shared-fits true due sender receiver answer h = h
   shared-fits false due sender receiver answer h = tt
 
-  asked-fits : (b : Bool) (due : ℕ) (q : Query) (kind : Text) → targetMatch (q .target) kind ≡ b → length (q .target) ≤ typeMax → fits typeMax kind ≡ true →
+  asked-fits : (b : Bool) (due : ℕ) (q : Query) (kind : Text) → targetMatch (q .target) kind ≡ b → length (q .target) ≤ typeMax → Fits typeMax kind →
       (d : ResponseNeeded) (answer : Text) → AnswerFits d answer → AnswerFits (askedNeed b due q d) (askedAnswer b q kind d answer)
   asked-fits false due q kind m l f d answer h = h
   asked-fits true due q kind m l f None answer h = target-fits (q .target) kind l m f (equal (q .target) ssdpAll) refl
   asked-fits true due q kind m l f (Multicast d) answer h = tt
   asked-fits true due q kind m l f (Unicast d sender receiver) answer h = shared-fits (sameSender sender (q .sender)) d sender receiver answer h
 
-  asked-fit : (due : ℕ) (q : Query) → length (q .target) ≤ typeMax → (a : Advertisement) → Fit a → Fit (asked due q a)
+  asked-fit : (due : ℕ) (q : Query) → length (q .target) ≤ typeMax → (a : Advertisement) → TextsFit a → TextsFit (asked due q a)
   unfolding asked
   asked-fit due q l a f = record {
     name = f .name;
@@ -118,7 +117,7 @@ served-fits : (b : Bool) (d : ResponseNeeded) (answer : Text) → AnswerFits d a
 served-fits true d answer h = tt
 served-fits false d answer h = h
 
-served-fit : (now : ℕ) (a : Advertisement) → Fit a → Fit (served now a)
+served-fit : (now : ℕ) (a : Advertisement) → TextsFit a → TextsFit (served now a)
 unfolding served
 served-fit now a f = record {
   name = f .name;

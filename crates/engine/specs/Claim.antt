@@ -7,15 +7,13 @@ use mathlib.Core.Bool.{true, false, cond}
 use mathlib.Core.List.{List, [], _∷_, _++_, List·Memᴰ as In}
 use mathlib.Core.Option.{none, some}
 use lib.ListN.{length}
-use Rattle.message.specs.Build.{searchText, notifyText, byebyeText, responseText}
 use Rattle.engine.specs.Sizes.{recordsMax}
 use Rattle.engine.specs.Target.{targetMatch}
-use Rattle.engine.specs.Location.{rewritten}
-use Rattle.engine.specs.Held.{Text, Advertisement, held}
+use Rattle.engine.specs.Held.{Advertisement, held}
 use Rattle.engine.specs.Calls.{Call, Timeout, Query, Asks, acts, Counts, zeros, plus}
 use Rattle.engine.specs.Links.{upAddresses}
-use Rattle.engine.specs.Records.{Record, SearchFrom, NotifyFrom, ByeByeFrom, ResponseFrom, refreshRecords, salvoDue}
-use Rattle.engine.specs.Layout.{messageOf, written}
+use Rattle.engine.specs.Records.{Record, refreshRecords, salvoDue}
+use Rattle.engine.specs.Layout.{textOf, messageOf, written}
 use Rattle.engine.specs.Engine.{step}
 use Rattle.engine.specs.Ledger.{Wait, Name, withWait, waitsIn, opened, loneReply, repliesTo, Ledger, refusalIn, entry, ledgerOf, sumsOf, ledgerRecords}
 use Rattle.engine.specs.declared.advertisement.ResponseNeeded.{ResponseNeeded}
@@ -57,13 +55,6 @@ After now None = Unit {0}
 After now (Multicast due) = now < due
 After now (Unicast due sender receiver) = now < due
 
--- what the message of a record is to be: the built text, with the location rewritten for the source address
-abbrev pub textOf : Record → Text
-textOf (SearchFrom source kind) = searchText kind
-textOf (NotifyFrom source kind name location) = notifyText kind name (rewritten location source)
-textOf (ByeByeFrom source kind name) = byebyeText kind name
-textOf (ResponseFrom source to kind name location) = responseText kind name (rewritten location source)
-
 -- the records of a handle_timeout: the refresh records, if the salvo is due, then those of each wait that it ended
 abbrev pub timeoutRecords : Ledger → List Advertisement → ℕ → List Record
 timeoutRecords l as′ now =
@@ -91,7 +82,7 @@ pub record Exact (seed time : ℕ) (cs : List Call) (c : Call) (e : Engine) (out
   -- its counts are what the ledger adds in that call, its waiting the waits that the ledger then holds
   pub counts : countsOf (r .answer) ≡ entry (ledgerOf seed time cs) c .adds
   pub waiting : r .answer .waiting ≡ waitsIn (ledgerOf seed time (c ∷ cs) .names)
-  -- the outbox begins with its records, which are at most 120; the message of each is the built text
+  -- the outbox begins with its records, which are at most 120; the message of each is the built text (Layout, `textOf`)
   pub bytes : outbox′ ≡ written rs outbox
   pub records : r .answer .records ≡ length rs
   pub bounded : length rs ≤ recordsMax

@@ -1,0 +1,107 @@
+-- What an engine holds, without the padding of its tables: the view of the struct that contracts and claims go by.
+-- A length above its array means the whole array, as `take` has it.
+use Prim.Native.Nat.{ℕ}
+use mathlib.Core.Bool.{Bool, true, false}
+use mathlib.Core.List.{List, [], _∷_, map}
+use lib.Dec.{eqb, ltb}
+use lib.ListN.{take}
+use Rattle.text.specs.Bytes.{order, equal}
+use Rattle.text.specs.declared.bytes.Ordering.{Ordering}
+use Rattle.text.specs.declared.bytes.Ordering.the-variants.{Less, Equal, Greater}
+use Rattle.engine.specs.Table.{Key}
+use Rattle.engine.specs.RefreshTimer.{timerNew}
+use Rattle.engine.specs.declared.refresh_timer.RefreshTimer.{RefreshTimer}
+use Rattle.engine.specs.declared.interface.Interface.{Interface}
+use Rattle.engine.specs.declared.interface.Interfaces.{Interfaces}
+use Rattle.engine.specs.declared.subscription.ActiveSearch.{ActiveSearch}
+use Rattle.engine.specs.declared.subscription.ActiveSearches.{ActiveSearches}
+use Rattle.engine.specs.declared.advertisement.ResponseNeeded.{ResponseNeeded}
+use Rattle.engine.specs.declared.advertisement.ActiveAdvertisement.{ActiveAdvertisement}
+use Rattle.engine.specs.declared.advertisement.Advertisements.{Advertisements}
+use Rattle.engine.specs.declared.engine.Engine.{Engine}
+
+abbrev pub Text : Type 0
+Text = List ℕ
+
+-- 'Links and addresses': addresses are IPv4, as 32-bit numbers, in the order in which they were stored
+pub record Link : Type 0 where
+  pub index : ℕ
+  pub up : Bool
+  pub addresses : List ℕ
+
+-- 'Engine and ledger': an advertisement holds its waiting reply; `answer` is the type of the reply to a lone searcher
+pub record Advertisement : Type 0 where
+  pub name : Text
+  pub kind : Text
+  pub location : Text
+  pub needed : ResponseNeeded
+  pub answer : Text
+
+-- what is held beside the advertisements
+pub record Context : Type 0 where
+  pub seed : ℕ
+  pub timer : RefreshTimer
+  pub links : List Link
+  pub subscriptions : List Text
+
+pub record Held : Type 0 where
+  pub context : Context
+  pub advertisements : List Advertisement
+
+-- ---- the view of the struct
+unfoldable pub linkOf : Interface → Link
+linkOf i = record { index = i .index; up = i .up; addresses = take (i .count) (i .addresses) }
+
+unfoldable pub linksOf : Interfaces → List Link
+linksOf t = map linkOf (take (t .count) (t .slots))
+
+unfoldable pub kindOf : ActiveSearch → Text
+kindOf s = take (s .«kind_len») (s .kind)
+
+unfoldable pub subscriptionsOf : ActiveSearches → List Text
+subscriptionsOf t = map kindOf (take (t .count) (t .slots))
+
+unfoldable pub advertisementOf : ActiveAdvertisement → Advertisement
+advertisementOf a = record {
+  name = take (a .«name_len») (a .name);
+  kind = take (a .«kind_len») (a .kind);
+  location = take (a .«location_len») (a .location);
+  needed = a .«response_needed»;
+  answer = take (a .«answer_len») (a .answer);
+}
+
+unfoldable pub advertisementsOf : Advertisements → List Advertisement
+advertisementsOf t = map advertisementOf (take (t .count) (t .slots))
+
+unfoldable pub held : Engine → Held
+held e = record {
+  context = record {
+    seed = e .«random_seed»;
+    timer = e .«refresh_timer»;
+    links = linksOf (e .interfaces);
+    subscriptions = subscriptionsOf (e .«active_searches»);
+  };
+  advertisements = advertisementsOf (e .advertisements);
+}
+
+-- an engine that has just begun, with a seed, at a time
+unfoldable pub fresh : ℕ → ℕ → Held
+fresh seed time = record {
+  context = record { seed = seed; timer = timerNew seed time; links = []; subscriptions = [] };
+  advertisements = [];
+}
+
+-- ---- the keys of the two ordered tables
+abbrev pub isLess : Ordering → Bool
+isLess Less = true
+isLess Equal = false
+isLess Greater = false
+
+abbrev pub byName : {A : Type 0} → (A → Text) → Key Text A
+byName of = record { of = of; below = λ x y. isLess (order x y); same = equal }
+
+abbrev pub byIndex : Key ℕ Link
+byIndex = record { of = λ l. l .index; below = ltb; same = eqb }
+
+abbrev pub advertised : Key Text Advertisement
+advertised = byName (λ a. a .name)

@@ -12,6 +12,7 @@ use lib.Seq.{split-at}
 use borrow.Author.Tests.{lt-ltb, le-ltb, le-leb, ltb-true, eqb-true, leb-true}
 use Rattle.text.specs.Range.{within}
 use Rattle.text.specs.Bytes.{equal, lastIndexOf}
+use Rattle.text.specs.Range.{every}
 use Rattle.text.specs.Number.{number, unsigned, more, value, digits, max64}
 use Rattle.text.specs.Good.{goodText}
 use Rattle.text.specs.declared.number.Number.{Number}
@@ -67,7 +68,7 @@ digit-plain d e =
     rw (le-leb 33 d (omega arith), le-leb d 126 (omega arith))
 
 digits-plain : (s : List ℕ) → digits s ≡ true → allPlain s ≡ true
-unfolding digits
+unfolding every
 digits-plain [] e = refl
 digits-plain (d ∷ s) e =
     let h = both-true (within 48 57 d) (digits s) e in

@@ -10,9 +10,10 @@ use lib.ListN.{length, length-append}
 use borrow.Author.Tests.{le-leb, lt-leb, eq-eqb, ne-eqb, leb-true}
 use Rattle.text.specs.Range.{within}
 use Rattle.text.specs.Utf8.{leadOf, expects, rest, utf8}
-use Rattle.text.specs.Bytes.{firstPlace, headed, indexOf}
+use Rattle.text.specs.Bytes.{lacks, firstPlace, headed, indexOf}
 use Rattle.text.specs.White.{whiteSpace, begins, white1, width, opening, closing, at, run, leading, trailing}
-use Rattle.text.specs.Good.{lacks, goodText}
+use Rattle.text.specs.Good.{goodText}
+use Rattle.text.specs.Range.{every}
 use Rattle.text.proofs.GoodText.{good}
 use Rattle.engine.proofs.Parts.{by-cond, both-true}
 use Rattle.text.specs.declared.utf8.Lead.{Lead}
@@ -86,16 +87,20 @@ utf8-at p x s h = rest-at 0 0x80 0xBF p x s h (below 0x80 0xBF x h)
 
 -- bytes 10 and 13
 lacks-cons : (b a : ℕ) (s : List ℕ) → lacks b (a ∷ s) ≡ (not (eqb a b) && lacks b s)
-unfolding indexOf firstPlace
-lacks-cons b a s = go (eqb a b)
-  where
-    go : (t : Bool) → eqb (cond t 0 (suc (firstPlace (headed b) s))) (suc (length s)) ≡ (not t && eqb (firstPlace (headed b) s) (length s))
-    go true = ne-eqb 0 (suc (length s)) (λ e. omega arith)
-    go false = eqb·suc-suc (firstPlace (headed b) s) (length s)
+unfolding every
+lacks-cons b a s = refl
 
 lacks-nil : (b : ℕ) → lacks b [] ≡ true
-unfolding indexOf firstPlace
+unfolding every
 lacks-nil b = refl
+
+good-lacks : (s : List ℕ) → goodText s ≡ true → (lacks 10 s ≡ true) × (lacks 13 s ≡ true)
+unfolding goodText
+good-lacks s e =
+    let a = and-eq-true-iff (utf8 s && lacks 10 s && lacks 13 s && eqb (leading s) 0) (eqb (trailing s) 0) .0 e in
+    let b = and-eq-true-iff (utf8 s && lacks 10 s && lacks 13 s) (eqb (leading s) 0) .0 (a .0) in
+    let c = and-eq-true-iff (utf8 s && lacks 10 s) (lacks 13 s) .0 (b .0) in
+    (and-eq-true-iff (utf8 s) (lacks 10 s) .0 (c .0) .1, c .1)
 
 lacks-append : (b : ℕ) (p s : List ℕ) → lacks b (p ++ s) ≡ (lacks b p && lacks b s)
 lacks-append b [] s = ap (λ (t : Bool). t && lacks b s) (sym (lacks-nil b))
@@ -295,8 +300,8 @@ module _ (p : List ℕ) (x : ℕ) (ascii : x < 128) where
       let code : utf8 (p ++ x ∷ s′) ≡ true = utf8-at p x s′ ascii ∙ and-eq-true-iff (utf8 p) (utf8 s′) .1 (front, u) in
       rw (
         code,
-        joined-lacks 10 s s′ (eq-eqb _ _ (was .noLineFeed)) l,
-        joined-lacks 13 s s′ (eq-eqb _ _ (was .noReturn)) r,
+        joined-lacks 10 s s′ (good-lacks (p ++ x ∷ s) g .0) l,
+        joined-lacks 13 s s′ (good-lacks (p ++ x ∷ s) g .1) r,
         eq-eqb _ _ (leading-same p x s s′ ascii (was .front)),
         eq-eqb _ _ e,
       )
@@ -318,7 +323,7 @@ module _ (p : List ℕ) (x : ℕ) (ascii : x < 128) where
       in
       exchanged (m ++ y ∷ q) (m′ ++ y ∷ q) g
       (utf8-plain m′ (y ∷ q) (e .bytes) ∙ utf8-at [] y q h ∙ utf8-none (utf8 q) ∙ end)
-      (keeps 10 (omega arith) (eq-eqb _ _ (was .noLineFeed)))
-      (keeps 13 (omega arith) (eq-eqb _ _ (was .noReturn)))
+      (keeps 10 (omega arith) (good-lacks (p ++ x ∷ (m ++ y ∷ q)) g .0))
+      (keeps 13 (omega arith) (good-lacks (p ++ x ∷ (m ++ y ∷ q)) g .1))
       (ap trailing (sym (append-assoc p (x ∷ m′) (y ∷ q)))
       ∙ trailing-same (p ++ x ∷ m) (p ++ x ∷ m′) y q h (ap trailing (append-assoc p (x ∷ m) (y ∷ q)) ∙ was .end))

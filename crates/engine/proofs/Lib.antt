@@ -1,0 +1,6 @@
+-- Laws that belong to no one function, a file for each subject.
+pub mod Tables
+pub mod Slots
+pub mod Shifts
+pub mod SlotTables
+pub mod LinkTables

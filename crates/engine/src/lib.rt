@@ -1,0 +1,7 @@
+// The discovery engine: what is held, and the calls on it. Sockets, clock and interface news stay with the host.
+pub mod advertisement;
+pub mod engine;
+pub mod interface;
+pub mod refresh_timer;
+pub mod subscription;
+pub mod table;

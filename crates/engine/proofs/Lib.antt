@@ -4,3 +4,4 @@ pub mod Slots
 pub mod Shifts
 pub mod SlotTables
 pub mod LinkTables
+pub mod Fields

@@ -14,5 +14,6 @@ pub mod LinkTable
 pub mod Records
 pub mod Layout
 pub mod Replies
+pub mod NameTable
 pub mod Refusals
 pub mod Engine

@@ -1,6 +1,6 @@
 // Links (network interfaces) by index: document 01, 'Links and addresses'.
+use crate::clamp::least;
 use crate::table::Spot;
-use crate::table::least;
 ghost use mathlib.Core.Path.{_≡_};
 ghost use mathlib.Core.Bool.{false, not, _&&_};
 ghost use Prim.Native.Nat.{_+_, _-_, _<_, _≤_};

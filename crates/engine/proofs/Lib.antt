@@ -5,3 +5,9 @@ pub mod Shifts
 pub mod SlotTables
 pub mod LinkTables
 pub mod Fields
+pub mod Splicing
+pub mod Matching
+pub mod Flag
+pub mod Wait
+pub mod Passes
+pub mod Waits

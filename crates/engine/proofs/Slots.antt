@@ -23,7 +23,7 @@ pub clamped : {A : Type 0} (l : List A) (m n : ℕ) → n ≡ min m (length l) �
 clamped l m n e = ap (λ (i : ℕ). take i l) e ∙ take-least l m
 
 module _ {A B : Type 0} (view : A → B) where
-  map-append : (l m : List A) → map view (l ++ m) ≡ map view l ++ map view m
+  pub map-append : (l m : List A) → map view (l ++ m) ≡ map view l ++ map view m
   map-append [] m = refl
   map-append (a ∷ l) m = ap (λ (t : List B). view a ∷ t) (map-append l m)
 

@@ -15,5 +15,6 @@ pub mod Records
 pub mod Layout
 pub mod Replies
 pub mod NameTable
+pub mod Passes
 pub mod Refusals
 pub mod Engine

@@ -2,9 +2,13 @@
 pub mod advertisement;
 mod buffer;
 mod clamp;
+pub mod delay;
 pub mod engine;
 pub mod field;
+pub mod flags;
 pub mod interface;
 pub mod refresh_timer;
+pub mod replies;
 pub mod subscription;
 pub mod table;
+mod target;

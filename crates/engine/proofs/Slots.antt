@@ -2,13 +2,13 @@
 -- What is left of the entries from an index on, as a loop that goes up meets it; and the entries after a store, an entry put in, one taken out.
 use mathlib.Core.Path.{_≡_, refl, sym, _∙_, ap}
 use mathlib.Core.List.{List, [], _∷_, _++_, map}
-use Prim.Native.Nat.{ℕ, zero, suc, min, _+_, _≤_, _<_}
+use Prim.Native.Nat.{ℕ, zero, suc, min, _+_, _-_, _≤_, _<_}
 use native.Mathlib.Nat.{min-eq-left, min-eq-right}
 use native.Mathlib.Decide.{decLe}
 use native.Mathlib.Numerals.{add-one}
 use native.Mathlib.Omega.{arith}
-use lib.ListN.{length, take, drop, set, getD, length-take, length-map, drop-of-length-le}
-use lib.Seq.{drop-cons, getD-take, take-all, take-length, take-set-lt}
+use lib.ListN.{length, take, drop, set, getD, length-take, length-drop, length-map, drop-of-length-le}
+use lib.Seq.{drop-cons, getD-take, take-all, take-length, take-set-lt, take-suc-set}
 use Rattle.engine.specs.Slots.{insertAt, removeAt}
 
 -- `take` clamps as the lesser of two numbers does
@@ -66,8 +66,22 @@ module _ {A B : Type 0} (view : A → B) (l : List A) (m : ℕ) where
       ∙ ap (λ (a : A). view a ∷ map view (drop (suc i) (take m l))) (getD-take m l i d (omega arith))
       ∙ ap (λ (t : List B). view (getD l i d) ∷ t) (map-drop view (suc i) (take m l) ∙ ap (λ (j : ℕ). drop j entries) (sym (add-one i)))
 
+  -- the same for a loop that goes down, from i to j
+  pub rest-back : (i j : ℕ) (d : A) → j + 1 ≡ i → j < min m (length l) → drop j entries ≡ view (getD l j d) ∷ drop i entries
+  rest-back i j d e h = rest-cons j d h ∙ ap (λ (k : ℕ). view (getD l j d) ∷ drop k entries) e
+
+  pub rest-length : (i : ℕ) → length (drop i entries) ≡ min m (length l) - i
+  rest-length i = length-drop i entries ∙ ap (λ (k : ℕ). k - i) entries-length
+
   pub stored : (i : ℕ) (a : A) → i < m → map view (take m (set l i a)) ≡ set entries i (view a)
   stored i a h = ap (map view) (take-set-lt m l i a h) ∙ map-set view (take m l) i a
+
+  -- one more behind the others
+  pub pushed : (n : ℕ) (a : A) → n ≡ min m (length l) → n < length l → map view (take (n + 1) (set l n a)) ≡ entries ++ (view a ∷ [])
+  pushed n a e h =
+      ap (λ (k : ℕ). map view (take k (set l n a))) (add-one n)
+      ∙ ap (map view) (take-suc-set l n a h ∙ ap (λ (t : List A). t ++ (a ∷ [])) (clamped l m n e))
+      ∙ map-append view (take m l) (a ∷ [])
 
   -- as the code has them: `n` is the lesser of the count and the array's length, `j` the count afterwards
   module _ (out : List A) (n i j : ℕ) (lesser : n ≡ min m (length l)) where

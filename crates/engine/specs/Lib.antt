@@ -18,3 +18,4 @@ pub mod NameTable
 pub mod Passes
 pub mod Refusals
 pub mod Engine
+pub mod Telling

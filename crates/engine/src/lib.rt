@@ -7,6 +7,7 @@ pub mod engine;
 pub mod field;
 pub mod flags;
 pub mod interface;
+mod location;
 pub mod refresh_timer;
 pub mod replies;
 pub mod subscription;

@@ -6,15 +6,14 @@ use crate::advertisement::ResponseNeeded;
 use crate::clamp::least;
 use crate::field::front80;
 use crate::field::text80;
+use crate::subscription::is_all;
 use crate::target::target_match;
-use text::bytes::equal;
 ghost use mathlib.Core.Path.{_≡_};
 ghost use mathlib.Core.Bool.{true};
 ghost use Prim.Native.Nat.{_≤_, min};
 ghost use lib.ListN.{length, take};
-ghost use Rattle.text.specs.Bytes.{equal};
 ghost use Rattle.message.specs.Build.{typeMax};
-ghost use Rattle.engine.specs.Target.{ssdpAll, targetMatch};
+ghost use Rattle.engine.specs.Target.{targetMatch};
 ghost use Rattle.engine.specs.Held.{advertisementOf, advertisementsOf};
 ghost use Rattle.engine.specs.Records.{isDue};
 ghost use Rattle.engine.specs.Replies.{waits, waiting, sooner, soonest, sameSender, answerType, hits, asked, matchedBy, joinedBy, served, isAlone, isGroup, aloneAt, groupAt};
@@ -110,13 +109,6 @@ fn with_answer(a: ActiveAdvertisement, answer: [u8; 80], answer_len: usize) -> A
     out.answer = answer;
     out.answer_len = answer_len;
     out
-}
-
-// Whether a type is `ssdp:all`.
-pub fn is_all(text: &[u8]) -> bool
-    ensures { λ r. ⌜ r ≡ equal (now (text .entry)) ssdpAll ⌝ }
-{
-    equal(text, b"ssdp:all")
 }
 
 // Whether two datagrams came from the same address and port.

@@ -1,8 +1,8 @@
 -- The literal is the definition's text.
 use Rattle.text.specs.Bytes.{bytes}
 use borrow.Author.Needs.{needs}
-use Rattle.engine.proofs.replies.is_all.Statement.{statement}
-use Rattle.engine.proofs.replies.is_all.Tie as tie
+use Rattle.engine.proofs.subscription.is_all.Statement.{statement}
+use Rattle.engine.proofs.subscription.is_all.Tie as tie
 
 slice-aggregate-equal : tie.Need-slice-aggregate-equal
 slice-aggregate-equal c = search needs

@@ -1,4 +1,4 @@
--- Laws of the engine's definitions, a file for each subject; the claim about every list of calls is proved in Demand3 and EveryList.
+-- Laws that belong to no one function, a file for each subject; the claim about every list of calls is proved in Demand3 and EveryList.
 pub mod Parts
 pub mod Timer
 pub mod FlagBits
@@ -7,7 +7,24 @@ pub mod Rewriting
 pub mod Splicing
 pub mod Matching
 pub mod StarCases
-pub mod Assumed
+pub mod Tables
+pub mod Slots
+pub mod Shifts
+pub mod SlotTables
+pub mod LinkTables
+pub mod Fields
+pub mod Passes
+pub mod Waits
+pub mod Masks
+pub mod Flat
+pub mod RecordSize
+pub mod Sending
+pub mod OneRecord
+pub mod Runs
+pub mod Announcing
+pub mod Counting
+pub mod Answering
+pub mod LeafLaws
 pub mod Members
 pub mod Rows
 pub mod Accepted

@@ -1,11 +1,10 @@
 -- How records lie in the outbox: document 01, 'Outbox'.
-use Prim.Native.Nat.{ℕ, _+_, _-_, _*_, _/_, _%_}
-use mathlib.Core.Bool.{Bool, true, false, cond, _&&_}
+use Prim.Native.Nat.{ℕ, _+_, _-_, _*_, _/_, _%_, _≤_}
+use mathlib.Core.Path.{_≡_}
+use mathlib.Core.Bool.{cond, _||_}
 use mathlib.Core.List.{List, [], _∷_, _++_}
-use lib.Dec.{leb}
-use lib.ListN.{length, drop, replicate}
-use Rattle.text.specs.Good.{goodText}
-use Rattle.message.specs.Build.{typeMax, nameMax, buildLocationMax, searchText, notifyText, byebyeText, responseText}
+use lib.ListN.{length, take, drop, replicate}
+use Rattle.message.specs.Build.{Bounded, anyOverSize, anyNotGood, searchTexts, byebyeTexts, locatedTexts, searchText, notifyText, byebyeText, responseText}
 use Rattle.engine.specs.Sizes.{recordSize, headSize, groupAddress, groupPort}
 use Rattle.engine.specs.Location.{rewritten}
 use Rattle.engine.specs.Held.{Text}
@@ -27,18 +26,22 @@ destinationOf (NotifyFrom source kind name location) = group
 destinationOf (ByeByeFrom source kind name) = group
 destinationOf (ResponseFrom source to kind name location) = to
 
--- a text that the build functions take
-abbrev pub fits : ℕ → Text → Bool
-fits max t = leb (length t) max && goodText t
+-- the texts of a record's message with their largest sizes, and the message that they make; the location names the source address
+abbrev pub textsOf : Record → List Bounded
+textsOf (SearchFrom source kind) = searchTexts kind
+textsOf (NotifyFrom source kind name location) = locatedTexts kind name (rewritten location source)
+textsOf (ByeByeFrom source kind name) = byebyeTexts kind name
+textsOf (ResponseFrom source to kind name location) = locatedTexts kind name (rewritten location source)
 
--- the message of a record; the location names the source address. Texts that the build functions refuse leave none: an engine that began with `new` holds no such texts.
+abbrev pub textOf : Record → Text
+textOf (SearchFrom source kind) = searchText kind
+textOf (NotifyFrom source kind name location) = notifyText kind name (rewritten location source)
+textOf (ByeByeFrom source kind name) = byebyeText kind name
+textOf (ResponseFrom source to kind name location) = responseText kind name (rewritten location source)
+
+-- the message of a record. Texts that the build functions refuse (3, 4) leave none: an engine that began with `new` holds no such texts.
 unfoldable pub messageOf : Record → Text
-messageOf (SearchFrom source kind) = cond (fits typeMax kind) (searchText kind) []
-messageOf (NotifyFrom source kind name location) =
-    cond (fits typeMax kind && fits nameMax name && fits buildLocationMax (rewritten location source)) (notifyText kind name (rewritten location source)) []
-messageOf (ByeByeFrom source kind name) = cond (fits typeMax kind && fits nameMax name) (byebyeText kind name) []
-messageOf (ResponseFrom source to kind name location) =
-    cond (fits typeMax kind && fits nameMax name && fits buildLocationMax (rewritten location source)) (responseText kind name (rewritten location source)) []
+messageOf r = cond (anyOverSize (textsOf r) || anyNotGood (textsOf r)) [] (textOf r)
 
 -- the last two, and the last four, bytes of a number, the highest first
 abbrev pub bigEndian2 : ℕ → List ℕ
@@ -51,10 +54,12 @@ bigEndian4 x = x / 16777216 % 256 ∷ x / 65536 % 256 ∷ x / 256 % 256 ∷ x % 
 unfoldable pub headOf : Endpoint → ℕ → ℕ → List ℕ
 headOf to source size = bigEndian4 (to .address) ++ bigEndian2 (to .port) ++ bigEndian4 source ++ bigEndian2 size
 
--- then the message, and zeros to the record's size
+-- a record: its head, the message, and zeros to the record's size
+unfoldable pub framed : Endpoint → ℕ → Text → List ℕ
+framed to source message = headOf to source (length message) ++ message ++ replicate (recordSize - headSize - length message) 0
+
 unfoldable pub recordBytes : Record → List ℕ
-recordBytes r =
-    headOf (destinationOf r) (sourceOf r) (length (messageOf r)) ++ messageOf r ++ replicate (recordSize - headSize - length (messageOf r)) 0
+recordBytes r = framed (destinationOf r) (sourceOf r) (messageOf r)
 
 -- the records in a row, and what stands in an outbox once they are written: the bytes after the last record keep their values
 unfoldable pub layout : List Record → List ℕ
@@ -62,3 +67,13 @@ layout rs = flat recordBytes rs
 
 unfoldable pub written : List Record → List ℕ → List ℕ
 written rs outbox = layout rs ++ drop (length (layout rs)) outbox
+
+-- there is room for these records from record k on
+abbrev pub Room : List ℕ → ℕ → List Record → Type 0
+Room outbox k rs = recordSize * (k + length rs) ≤ length outbox
+
+-- these records were written from record k on: `after` is the outbox then, `next` the number of the record behind them
+pub record Sends (outbox : List ℕ) (k : ℕ) (rs : List Record) (after : List ℕ) (next : ℕ) : Type 0 where
+  pub number : next ≡ k + length rs
+  pub room : recordSize * next ≤ length outbox
+  pub bytes : after ≡ take (recordSize * k) outbox ++ layout rs ++ drop (recordSize * next) outbox

@@ -1,6 +1,9 @@
 // The discovery engine: what is held, and the calls on it. Sockets, clock and interface news stay with the host.
 pub mod advertisement;
+mod buffer;
+mod clamp;
 pub mod engine;
 pub mod interface;
+mod outbox;
 pub mod refresh_timer;
 pub mod subscription;

@@ -11,7 +11,7 @@ use lib.ListN.{length, take, drop, set, replicate, length-append, length-drop, l
 use lib.Seq.{paste, length-take-le, take-add, take-append-le, take-take, drop-append-add, drop-drop, drop-at, take-append-seam}
 use Rattle.message.specs.Put.{Put, overwritten}
 use Rattle.message.specs.Refusals.{accepted}
-use Rattle.message.specs.Build.{Bounded, anyOverSize, anyNotGood, buildRefusal, Builds}
+use Rattle.message.specs.Build.{Bounded, anyOverSize, anyNotGood, locatedTexts, buildRefusal, Builds}
 use Rattle.message.specs.declared.build.Built.{Built}
 use Rattle.message.proofs.Put as put
 use Rattle.engine.specs.Sizes.{recordSize, headSize}
@@ -20,6 +20,14 @@ use Rattle.engine.specs.Layout.{textsOf, textOf, messageOf, destinationO
 use Rattle.engine.specs.declared.advertisement.Endpoint.{Endpoint}
 use Rattle.engine.proofs.RecordSize.{text-fits, message-fits}
 use Rattle.engine.proofs.Sending.{of-put}
+
+-- what a text is written into keeps its length
+put-size : {b t b′ : List ℕ} {at r : ℕ} → r ≤ length b → Put b at t b′ r → length b′ ≡ length b
+unfolding overwritten
+put-size {b} {t} {b′} {at} {r} room p =
+    ap length (p .written)
+    ∙ length-append (take at b ++ t) (drop (at + length t) b)
+    ∙ omega (arith, length-append (take at b) t, length-take-le at b (omega (arith, p .place)), length-drop (at + length t) b, p .place)
 
 -- what stands at a place may be said to have been written there
 pub standing : (b : List ℕ) (at n : ℕ) → at + n ≤ length b → Put b at (take n (drop at b)) b (at + n)
@@ -96,6 +104,22 @@ pub zero-turn : (buffer after : List ℕ) (at n i next : ℕ) → next ≡ at + 
 zero-turn buffer after at n i next e h g p =
     ap (set after next) (sym (getD-replicate n i 0 0 g)) ∙ put.turn buffer after (replicate n 0) at i next e h (rw length-replicate g) p
 
+-- a text written over the start of a buffer is the buffer's front
+pub front : {b t b′ : List ℕ} {r : ℕ} → Put b 0 t b′ r → take r b′ ≡ t
+unfolding overwritten
+front {b} {t} {b′} {r} p =
+    ap (λ (n : ℕ). take n b′) (p .place ∙ zero-add (length t)) ∙ ap (take (length t)) (p .written) ∙ take-append-seam t (drop (0 + length t) b)
+
+pub inside : {b t b′ : List ℕ} {r : ℕ} → Put b 0 t b′ r → r ≤ length b′
+unfolding overwritten
+inside {b} {t} {b′} {r} p = omega (arith, p .place, ap length (p .written), length-append t (drop (0 + length t) b))
+
+-- a location by another name
+pub located : {kind name url url′ buffer after : List ℕ} {answer : Built} (text : List ℕ → List ℕ) → url ≡ url′
+    → Builds (locatedTexts kind name url) (text url) buffer after answer → Builds (locatedTexts kind name url′) (text url′) buffer after answer
+located {kind} {name} {url} {url′} {buffer} {after} {answer} text e b =
+    subst (λ (u : List ℕ). Builds (locatedTexts kind name u) (text u) buffer after answer) e b
+
 -- ---- what a build function leaves of a record's message in a buffer that has room for any
 module _ (r : Record) {buffer after : List ℕ} {answer : Built} (room : recordSize - headSize ≤ length buffer) (builds : Builds (textsOf r) (textOf r) buffer after answer) where
   -- a message whose texts are taken is no longer than the buffer
@@ -136,8 +160,12 @@ module _ (r : Record) (k : ℕ) (b : List ℕ) {d b′ : List ℕ} {answer : Bui
       in
       put.part (bodyAt k) (omega arith) (built r part builds) back
 
-  pub fits : answer .len ≤ recordSize - headSize
+  fits : answer .len ≤ recordSize - headSize
   fits = omega (arith, message .place, message-fits r)
+
+  -- what the frame asks for
+  pub frame-room : (recordSize * (k + 1) ≤ length b′) × (answer .len ≤ recordSize - headSize)
+  frame-room = (omega (arith, put-size (omega (arith, message .place, fits)) message), fits)
 
   pub sent : {b″ : List ℕ} → Put b′ (recordSize * k) (framed (destinationOf r) (sourceOf r) (take (answer .len) (drop (bodyAt k) b′))) b″ (recordSize * (k + 1))
       → Sends b k (r ∷ []) b″ (k + 1)

@@ -4,6 +4,7 @@ mod buffer;
 mod clamp;
 pub mod engine;
 pub mod interface;
+mod location;
 mod outbox;
 pub mod refresh_timer;
 pub mod subscription;

@@ -4,3 +4,5 @@ pub mod Flat
 pub mod RecordSize
 pub mod Sending
 pub mod OneRecord
+pub mod Runs
+pub mod Announcing

@@ -9,6 +9,7 @@ pub mod Held
 pub mod Calls
 pub mod Links
 pub mod Records
+pub mod Announcements
 pub mod Layout
 pub mod Replies
 pub mod Refusals

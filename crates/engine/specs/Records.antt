@@ -47,14 +47,20 @@ searchOn up kind = map (λ source. SearchFrom source kind) up
 abbrev pub notifyOn : List ℕ → Advertisement → List Record
 notifyOn up a = map (notify a) up
 
--- `refresh`: all advertisements, then the searches
+-- all advertisements, then the searches, from each of these addresses
+abbrev pub refreshOn : List ℕ → List Text → List Advertisement → List Record
+refreshOn up subscriptions as′ = flat (notifyOn up) as′ ++ flat (searchOn up) (searchesOf subscriptions)
+
+-- `refresh`
 unfoldable pub refreshRecords : Context → List Advertisement → List Record
-refreshRecords x as′ =
-    flat (notifyOn (upAddresses (x .links))) as′ ++ flat (searchOn (upAddresses (x .links))) (searchesOf (x .subscriptions))
+refreshRecords x as′ = refreshOn (upAddresses (x .links)) (x .subscriptions) as′
 
 -- to one address: the same searches, then the advertisements
+abbrev pub allFrom : List Text → List Advertisement → ℕ → List Record
+allFrom subscriptions as′ source = map (SearchFrom source) (searchesOf subscriptions) ++ map (λ a. notify a source) as′
+
 unfoldable pub addressRecords : Context → List Advertisement → ℕ → List Record
-addressRecords x as′ source = map (SearchFrom source) (searchesOf (x .subscriptions)) ++ map (λ a. notify a source) as′
+addressRecords x as′ source = allFrom (x .subscriptions) as′ source
 
 -- a reply that waits no more: to the lone searcher, or to the group from each address on an up link
 abbrev pub replyRecords : List ℕ → Advertisement → ResponseNeeded → List Record

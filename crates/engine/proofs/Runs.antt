@@ -57,6 +57,10 @@ module _ {A : Type 0} (l : List A) (n m : ℕ) {c : ℕ} (size : length l ≡ c)
   pub each : (g : A → Record) → flat (λ a. g a ∷ []) (take m l) ≡ map g (take n l)
   each g = flat-one g (take m l) ∙ ap (map g) (clamped l n m lesser)
 
-  -- several for each, through a view
+  -- several for each
+  pub several : (g : A → List Record) → flat g (take m l) ≡ flat g (take n l)
+  several g = ap (flat g) (clamped l n m lesser)
+
+  -- and through a view
   pub viewed : {B : Type 0} (view : A → B) (g : B → List Record) → flat (λ a. g (view a)) (take m l) ≡ flat g (map view (take n l))
   viewed view g = ap (flat (λ a. g (view a))) (clamped l n m lesser) ∙ sym (flat-map g view (take n l))

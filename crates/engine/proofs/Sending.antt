@@ -55,6 +55,13 @@ next {b} {b′} {b″} {k} {k′} {k″} {rs} {ss} s t =
     of-put (omega (arith, s .number, t .number, length-append rs ss)) (omega (arith, t .room, size s))
     (put.text (put.behind (omega (arith, s .number, s .room)) (as-put s) (as-put t)) (sym (flat-append recordBytes rs ss)))
 
+-- room for two runs is room for the first, and then for the second
+pub room-first : (b : List ℕ) (k : ℕ) (rs ss : List Record) → Room b k (rs ++ ss) → Room b k rs
+room-first b k rs ss room = omega (arith, length-append rs ss)
+
+pub room-next : {b b′ : List ℕ} {k k′ : ℕ} {rs : List Record} (ss : List Record) → Room b k (rs ++ ss) → Sends b k rs b′ k′ → Room b′ k′ ss
+room-next {rs = rs} ss room s = omega (arith, length-append rs ss, size s, s .number)
+
 -- the same records by another name
 pub of : {b b′ : List ℕ} {k k′ : ℕ} {rs ss : List Record} → rs ≡ ss → Sends b k rs b′ k′ → Sends b k ss b′ k′
 of {b} {b′} {k} {k′} e s = subst (λ (x : List Record). Sends b k x b′ k′) e s

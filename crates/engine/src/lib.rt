@@ -9,4 +9,5 @@ pub mod interface;
 mod location;
 mod outbox;
 pub mod refresh_timer;
+mod salvo;
 pub mod subscription;

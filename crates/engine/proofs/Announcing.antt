@@ -1,4 +1,4 @@
--- An announcement whose texts go by other names is the same announcement; and which searches a refresh announces.
+-- A message whose texts go by other names is the same message; and which searches a refresh announces.
 use mathlib.Core.Path.{_≡_, sym, _∙_, ap}
 use mathlib.Core.Bool.{Bool, true, false, cond, _||_}
 use mathlib.Core.List.{List, [], _∷_, append-nil}
@@ -7,8 +7,9 @@ use lib.ListN.{drop}
 use Rattle.text.specs.Bytes.{equal}
 use Rattle.engine.specs.Target.{ssdpAll}
 use Rattle.engine.specs.Held.{Text}
-use Rattle.engine.specs.Records.{flat, anyAll, searchesOf, searchOn}
+use Rattle.engine.specs.Records.{Record, ResponseFrom, flat, anyAll, searchesOf, searchOn}
 use Rattle.engine.specs.Announcements.{announcedOn}
+use Rattle.engine.specs.declared.advertisement.Endpoint.{Endpoint}
 use Rattle.engine.specs.declared.announce.Announcement.{Announcement}
 
 pub same-texts : (up : List ℕ) (what : Announcement) {kind kind′ name name′ location location′ : List ℕ} → kind ≡ kind′ → name ≡ name′ → location ≡ location′
@@ -17,6 +18,10 @@ same-texts up what {kind} {kind′} {name} {name′} {location} {location′} p 
     ap (λ (t : List ℕ). announcedOn up what t name location) p
     ∙ ap (λ (t : List ℕ). announcedOn up what kind′ t location) q
     ∙ ap (λ (t : List ℕ). announcedOn up what kind′ name′ t) r
+
+pub response-texts : (source : ℕ) (to : Endpoint) {kind kind′ name name′ location location′ : List ℕ} → kind ≡ kind′ → name ≡ name′ → location ≡ location′
+    → _≡_ {A = List Record} (ResponseFrom source to kind name location ∷ []) (ResponseFrom source to kind′ name′ location′ ∷ [])
+response-texts source to p q r = cc
 
 -- ---- whether any subscription is for all, looked for from the front: those before `i` are not
 module _ (ts : List Text) (i : ℕ) (before : anyAll ts ≡ anyAll (drop i ts)) where

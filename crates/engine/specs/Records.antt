@@ -62,11 +62,15 @@ allFrom subscriptions as′ source = map (SearchFrom source) (searchesOf subscri
 unfoldable pub addressRecords : Context → List Advertisement → ℕ → List Record
 addressRecords x as′ source = allFrom (x .subscriptions) as′ source
 
+-- the reply to a lone searcher, from the address that its search reached
+abbrev pub responseTo : Advertisement → Endpoint → ℕ → Record
+responseTo a to source = ResponseFrom source to (a .answer) (a .name) (a .location)
+
 -- a reply that waits no more: to the lone searcher, or to the group from each address on an up link
 abbrev pub replyRecords : List ℕ → Advertisement → ResponseNeeded → List Record
 replyRecords up a None = []
 replyRecords up a (Multicast due) = notifyOn up a
-replyRecords up a (Unicast due sender receiver) = ResponseFrom receiver sender (a .answer) (a .name) (a .location) ∷ []
+replyRecords up a (Unicast due sender receiver) = responseTo a sender receiver ∷ []
 
 abbrev pub isDue : ℕ → ResponseNeeded → Bool
 isDue time None = false

@@ -46,7 +46,7 @@ fn announce(
 }
 
 // From record k on: an announcement from each of the first `n` addresses. Answers the next record's number.
-pub fn announce_on_all(
+pub(crate) fn announce_on_all(
     outbox: &mut [u8],
     k: usize,
     up: [u32; 6],
@@ -70,7 +70,7 @@ pub fn announce_on_all(
 }
 
 // From record k on: an announcement of an advertisement from each of the first `n` addresses. Answers the next record's number.
-pub fn announce_entry(
+pub(crate) fn announce_entry(
     outbox: &mut [u8],
     k: usize,
     up: [u32; 6],
@@ -97,7 +97,13 @@ pub fn announce_entry(
 }
 
 // From record k on: a subscription's search from each of the first `n` addresses. Answers the next record's number.
-pub fn search_entry(outbox: &mut [u8], k: usize, up: [u32; 6], n: usize, s: ActiveSearch) -> usize
+pub(crate) fn search_entry(
+    outbox: &mut [u8],
+    k: usize,
+    up: [u32; 6],
+    n: usize,
+    s: ActiveSearch,
+) -> usize
     requires { ⌜ Room (now outbox) k (searchOn (take n up) (kindOf s)) ⌝ }
     ensures { λ r. ⌜ Sends (now (outbox .entry)) k (searchOn (take n up) (kindOf s)) (now (outbox .exit)) r ⌝ }
 {

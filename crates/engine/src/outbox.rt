@@ -70,7 +70,7 @@ const GROUP: Endpoint = Endpoint {
 };
 
 // Record k: a search for a type, to the group. Answers the next record's number.
-pub fn search_on(outbox: &mut [u8], k: usize, source: u32, kind: &[u8]) -> usize
+pub(crate) fn search_on(outbox: &mut [u8], k: usize, source: u32, kind: &[u8]) -> usize
     requires { ⌜ recordSize * (k + 1) ≤ length (now outbox) ⌝ }
     ensures { λ r. ⌜ Sends (now (outbox .entry)) k (SearchFrom source (now (kind .entry)) ∷ []) (now (outbox .exit)) r ⌝ }
 {
@@ -81,7 +81,7 @@ pub fn search_on(outbox: &mut [u8], k: usize, source: u32, kind: &[u8]) -> usize
 }
 
 // Record k: that a service is there, to the group, its location as seen from the source. Answers the next record's number.
-pub fn notify_on(
+pub(crate) fn notify_on(
     outbox: &mut [u8],
     k: usize,
     source: u32,
@@ -101,7 +101,7 @@ pub fn notify_on(
 }
 
 // Record k: that a service goes, to the group. Answers the next record's number.
-pub fn byebye_on(outbox: &mut [u8], k: usize, source: u32, kind: &[u8], name: &[u8]) -> usize
+pub(crate) fn byebye_on(outbox: &mut [u8], k: usize, source: u32, kind: &[u8], name: &[u8]) -> usize
     requires { ⌜ recordSize * (k + 1) ≤ length (now outbox) ⌝ }
     ensures { λ r. ⌜ Sends (now (outbox .entry)) k (ByeByeFrom source (now (kind .entry)) (now (name .entry)) ∷ []) (now (outbox .exit)) r ⌝ }
 {
@@ -112,7 +112,7 @@ pub fn byebye_on(outbox: &mut [u8], k: usize, source: u32, kind: &[u8], name: &[
 }
 
 // Record k: the reply to a lone searcher, from the address that its search reached. Answers the next record's number.
-pub fn send_response(
+pub(crate) fn send_response(
     outbox: &mut [u8],
     k: usize,
     source: u32,

@@ -20,7 +20,7 @@ ghost use Rattle.engine.specs.Records.{flat, anyAll, searchesOf, searchO
 ghost use Rattle.engine.specs.Layout.{Room, Sends};
 
 // Every advertisement from each of the first `n` addresses.
-pub fn advertisements_on_all(
+pub(crate) fn advertisements_on_all(
     outbox: &mut [u8],
     k: usize,
     up: [u32; 6],
@@ -88,7 +88,7 @@ fn each_search_on_all(
 }
 
 // The same, but one search for all where any subscription is for all.
-pub fn searches_on_all(
+pub(crate) fn searches_on_all(
     outbox: &mut [u8],
     k: usize,
     up: [u32; 6],
@@ -114,7 +114,7 @@ pub fn searches_on_all(
 }
 
 // `refresh`: every advertisement, then the searches.
-pub fn refresh_on_all(
+pub(crate) fn refresh_on_all(
     outbox: &mut [u8],
     k: usize,
     up: [u32; 6],
@@ -130,7 +130,7 @@ pub fn refresh_on_all(
 }
 
 // To one address: the same searches, then every advertisement.
-pub fn send_all(
+pub(crate) fn send_all(
     outbox: &mut [u8],
     k: usize,
     source: u32,
@@ -146,7 +146,7 @@ pub fn send_all(
 }
 
 // To each of the first `n` addresses of a link in turn.
-pub fn send_all_in_turn(
+pub(crate) fn send_all_in_turn(
     outbox: &mut [u8],
     k: usize,
     addresses: [u32; 2],

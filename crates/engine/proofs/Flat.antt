@@ -41,6 +41,17 @@ module _ {A B : Type 0} (f : A → List B) where
   flat-most m h [] = omega arith
   flat-most m h (a ∷ l) = omega (arith, length-append (f a) (flat f l), h a, flat-most m h l, mul-suc m (length l))
 
+  -- each part is m long
+  pub flat-each : (m : ℕ) → ((a : A) → length (f a) ≡ m) → (l : List A) → length (flat f l) ≡ m * length l
+  unfolding flat
+  flat-each m h [] = omega arith
+  flat-each m h (a ∷ l) = length-append (f a) (flat f l) ∙ omega (arith, h a, flat-each m h l, mul-suc m (length l))
+
+  -- of a single element
+  pub flat-single : (a : A) → flat f (a ∷ []) ≡ f a
+  unfolding flat
+  flat-single a = append-nil (f a)
+
 -- over a view of the elements
 pub flat-map : {A B C : Type 0} (f : B → List C) (g : A → B) (l : List A) → flat f (map g l) ≡ flat (λ a. f (g a)) l
 unfolding flat

@@ -6,3 +6,4 @@ pub mod Sending
 pub mod OneRecord
 pub mod Runs
 pub mod Announcing
+pub mod Counting

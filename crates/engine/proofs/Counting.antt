@@ -10,18 +10,31 @@ use Rattle.text.specs.Bytes.{equal}
 use Rattle.engine.specs.Sizes.{recordSize, recordsMax, outboxSize, advertisementsMax, subscriptionsMax, linksMax, addressesMax}
 use Rattle.engine.specs.Table.{Key, entryOf}
 use Rattle.engine.specs.Target.{ssdpAll}
-use Rattle.engine.specs.Held.{Text, Advertisement, Context, advertised}
+use Rattle.engine.specs.Held.{Text, Advertisement, Context, advertisementOf, advertisementsOf, kindOf, subscriptionsOf, advertised}
 use Rattle.engine.specs.Calls.{Call, NewLink, DeletedLink, NewAddress, DeletedAddress, Subscribe, Advertise, Deadvertise, Refresh, Datagram, Timeout, ResetTimer}
 use Rattle.engine.specs.Links.{addressesOf, anyUp, upAddresses, addressOf, linkAt, stores}
-use Rattle.engine.specs.Records.{Record, SearchFrom, NotifyFrom, ByeByeFrom, flat, anyAll, searchesOf, notify, notifyOn, searchOn, refreshOn, refreshRecords, allFrom, addressRecords, isDue, replyRecords, dueRecords, salvoDue, turnsUp, records}
+use Rattle.engine.specs.Records.{Record, SearchFrom, NotifyFrom, flat, anyAll, searchesOf, notify, notifyOn, searchOn, byebyeOn, refreshOn, refreshRecords, allFrom, addressRecords, isDue, replyRecords, dueRecords, timeoutOn, salvoDue, turnsUp, records}
 use Rattle.engine.specs.Layout.{Room}
+use Rattle.engine.specs.declared.advertisement.Advertisements.{Advertisements}
+use Rattle.engine.specs.declared.subscription.ActiveSearches.{ActiveSearches}
 use Rattle.engine.specs.declared.advertisement.ResponseNeeded.{ResponseNeeded}
 use Rattle.engine.specs.declared.advertisement.ResponseNeeded.the-variants.{None, Multicast, Unicast}
 use Rattle.engine.proofs.Flat.{flat-each, flat-most}
 
--- an array's entries are no more than the array has
-pub held-most : {A B : Type 0} (view : A → B) (l : List A) (n : ℕ) → length (map view (take n l)) ≤ length l
-held-most view l n = omega (arith, length-map (take n l) view, length-take n l)
+-- no more is held than the arrays have room for
+pub taken-most : {A : Type 0} (l : List A) (n : ℕ) {c : ℕ} → length l ≡ c → length (take n l) ≤ c
+taken-most l n e = omega (arith, length-take n l)
+
+pub mapped-most : {A B : Type 0} (f : A → B) (l : List A) (n : ℕ) {c : ℕ} → length l ≡ c → length (map f (take n l)) ≤ c
+mapped-most f l n e = omega (arith, length-map (take n l) f, length-take n l)
+
+pub advertisements-most : (t : Advertisements) → length (t .slots) ≡ advertisementsMax → length (advertisementsOf t) ≤ advertisementsMax
+unfolding advertisementsOf
+advertisements-most t e = mapped-most advertisementOf (t .slots) (t .count) e
+
+pub subscriptions-most : (t : ActiveSearches) → length (t .slots) ≡ subscriptionsMax → length (subscriptionsOf t) ≤ subscriptionsMax
+unfolding subscriptionsOf
+subscriptions-most t e = mapped-most kindOf (t .slots) (t .count) e
 
 -- the searches of a refresh are no more than the subscriptions
 pub searches-most : (ts : List Text) → length (searchesOf ts) ≤ length ts
@@ -75,7 +88,28 @@ entry-most {A = A} k x (a ∷ l) = go (k .below (k .of a) x) (k .same (k .of a) 
     go true same h = h
     go false same h = cond-most same (a ∷ []) 1 (omega arith)
 
--- ---- what is held in the tables of an engine
+-- ---- the runs over tables of document 01's sizes
+module _ (ts : List Text) (as′ : List Advertisement) (few : length ts ≤ subscriptionsMax) (some : length as′ ≤ advertisementsMax) where
+  pub all-most : (source : ℕ) → length (allFrom ts as′ source) ≤ 12
+  all-most source = omega (arith, all-count ts as′ source, searches-most ts)
+
+  pub turn-most : (addresses : List ℕ) → length addresses ≤ addressesMax → length (flat (allFrom ts as′) addresses) ≤ 24
+  turn-most addresses h = omega (arith, flat-most (allFrom ts as′) 12 all-most addresses)
+
+  module _ (up : List ℕ) (addresses : length up ≤ linksMax * addressesMax) where
+    pub refresh-most : length (refreshOn up ts as′) ≤ 72
+    refresh-most = omega (arith, refresh-count up ts as′, mul-le-mul addresses some, mul-le-mul addresses (le-trans (searches-most ts) few))
+
+    pub timeout-most : (due : Bool) (time : ℕ) → length (timeoutOn up due time ts as′) ≤ recordsMax
+    timeout-most due time =
+        omega (
+          arith,
+          length-append (cond due (refreshOn up ts as′) []) (flat (dueRecords time up) as′),
+          cond-most due (refreshOn up ts as′) 72 refresh-most,
+          flat-most (dueRecords time up) 6 (λ a. due-most 6 time up a (omega arith) addresses) as′,
+        )
+
+-- ---- every call on an engine whose tables have document 01's sizes
 pub record Small (x : Context) (as′ : List Advertisement) : Type 0 where
   pub advertisements : length as′ ≤ advertisementsMax
   pub subscriptions : length (x .subscriptions) ≤ subscriptionsMax
@@ -83,50 +117,27 @@ pub record Small (x : Context) (as′ : List Advertisement) : Type 0 where
   pub link : (index : ℕ) → length (addressesOf (linkAt index (x .links))) ≤ addressesMax
 
 module _ {x : Context} {as′ : List Advertisement} (small : Small x as′) where
-  refresh-most : length (refreshRecords x as′) ≤ 72
-  unfolding refreshRecords
-  refresh-most =
-      omega (
-        arith,
-        refresh-count (upAddresses (x .links)) (x .subscriptions) as′,
-        mul-le-mul (small .up) (small .advertisements),
-        mul-le-mul (small .up) (le-trans (searches-most (x .subscriptions)) (small .subscriptions)),
-      )
+  abbrev on : List ℕ
+  on = upAddresses (x .links)
 
-  address-most : (source : ℕ) → length (addressRecords x as′ source) ≤ 12
-  unfolding addressRecords
-  address-most source =
-      omega (arith, all-count (x .subscriptions) as′ source, searches-most (x .subscriptions), small .subscriptions, small .advertisements)
-
-  on-most : (f : ℕ → Record) → length (map f (upAddresses (x .links))) ≤ 6
-  on-most f = omega (arith, length-map (upAddresses (x .links)) f, small .up)
+  on-most : (f : ℕ → Record) → length (map f on) ≤ 6
+  on-most f = omega (arith, length-map on f, small .up)
 
   pub records-most : (c : Call) → length (records x as′ c) ≤ recordsMax
-  unfolding records
+  unfolding records refreshRecords addressRecords
   records-most (NewLink index flags outcome room) =
       cond-most (turnsUp index flags (x .links)) _ recordsMax
-      (omega (arith, flat-most (addressRecords x as′) 12 address-most (addressesOf (linkAt index (x .links))), small .link index))
+      (omega (arith, turn-most (x .subscriptions) as′ (small .subscriptions) (small .advertisements) (addressesOf (linkAt index (x .links))) (small .link index)))
   records-most (DeletedLink index outcome) = omega arith
   records-most (NewAddress index address room) =
-      cond-most (stores index address (x .links) && anyUp (linkAt index (x .links))) _ recordsMax (omega (arith, address-most (addressOf address)))
+      cond-most (stores index address (x .links) && anyUp (linkAt index (x .links))) _ recordsMax
+      (omega (arith, all-most (x .subscriptions) as′ (small .subscriptions) (small .advertisements) (addressOf address)))
   records-most (DeletedAddress index address) = omega arith
   records-most (Subscribe kind room) = omega (arith, on-most (λ source. SearchFrom source kind))
   records-most (Advertise name kind location room) = omega (arith, on-most (λ source. NotifyFrom source kind name location))
   records-most (Deadvertise name room) =
-      omega (
-        arith,
-        flat-most (λ a. map (λ source. ByeByeFrom source (a .kind) (a .name)) (upAddresses (x .links))) 6 (λ a. on-most _) (entryOf advertised name as′),
-        entry-most advertised name as′,
-      )
-  records-most (Refresh room) = omega (arith, refresh-most)
+      omega (arith, flat-most (byebyeOn on) 6 (λ a. on-most _) (entryOf advertised name as′), entry-most advertised name as′)
+  records-most (Refresh room) = omega (arith, refresh-most (x .subscriptions) as′ (small .subscriptions) (small .advertisements) on (small .up))
   records-most (Datagram time sender receiver s) = omega arith
-  records-most (Timeout time room) =
-      let due = flat (dueRecords time (upAddresses (x .links))) as′ in
-      omega (
-        arith,
-        length-append (cond (salvoDue x time) (refreshRecords x as′) []) due,
-        cond-most (salvoDue x time) (refreshRecords x as′) 72 refresh-most,
-        flat-most (dueRecords time (upAddresses (x .links))) 6 (λ a. due-most 6 time (upAddresses (x .links)) a (omega arith) (small .up)) as′,
-        small .advertisements,
-      )
+  records-most (Timeout time room) = timeout-most (x .subscriptions) as′ (small .subscriptions) (small .advertisements) on (small .up) (salvoDue x time) time
   records-most (ResetTimer time) = omega arith

@@ -3,14 +3,14 @@ use mathlib.Core.Path.{_≡_, refl, sym, _∙_, ap, subst}
 use mathlib.Core.List.{List, [], _∷_, _++_, append-nil}
 use Prim.Native.Nat.{ℕ, _+_, _-_, _*_, _≤_, _<_}
 use native.Mathlib.Omega.{arith}
-use native.Mathlib.Nat.{add-zero}
+use native.Mathlib.Nat.{add-zero, zero-add}
 use lib.ListN.{length, take, drop, length-append, length-drop}
 use lib.Seq.{length-take-le}
 use Rattle.message.specs.Put.{Put, overwritten}
 use Rattle.message.proofs.Put as put
-use Rattle.engine.specs.Sizes.{recordSize}
+use Rattle.engine.specs.Sizes.{recordSize, recordsMax, outboxSize}
 use Rattle.engine.specs.Records.{Record, flat}
-use Rattle.engine.specs.Layout.{recordBytes, layout, written, Room, Sends}
+use Rattle.engine.specs.Layout.{recordBytes, layout, written, Room, Sends, Sent}
 use Rattle.engine.proofs.Flat.{flat-append}
 use Rattle.engine.proofs.RecordSize.{layout-length}
 
@@ -72,3 +72,10 @@ unfolding written
 whole {b} {b′} {k′} {rs} s =
     let end : recordSize * k′ ≡ length (layout rs) = omega (arith, s .number, layout-length rs) in
     s .bytes ∙ ap (λ (n : ℕ). layout rs ++ drop n b) end
+
+pub sent : {b b′ : List ℕ} {n : ℕ} {rs : List Record} → Sends b 0 rs b′ n → Sent rs b b′ n
+sent {rs = rs} s = record { number = s .number ∙ zero-add (length rs); bytes = whole s }
+
+-- the outbox that a host lends has room for the records of any call
+pub room-all : (b : List ℕ) (rs : List Record) → outboxSize ≤ length b → length rs ≤ recordsMax → Room b 0 rs
+room-all b rs h g = omega arith

@@ -12,4 +12,5 @@ mod outbox;
 pub mod refresh_timer;
 pub mod replies;
 mod salvo;
+mod send;
 pub mod subscription;

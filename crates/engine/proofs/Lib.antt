@@ -1,4 +1,26 @@
--- Laws that belong to no one function.
+-- Laws of the engine's definitions, a file for each subject; the claim about every list of calls is proved in Demand3 and EveryList.
+pub mod Parts
+pub mod Timer
+pub mod FlagBits
+pub mod ReplyDelay
+pub mod Rewriting
+pub mod Splicing
+pub mod Matching
+pub mod StarCases
+pub mod Assumed
+pub mod Members
+pub mod Rows
+pub mod Accepted
+pub mod Agreement
+pub mod Balance
+pub mod Openings
+pub mod Ascending
+pub mod Orders
+pub mod Bound
+pub mod Reachable
+pub mod Messages
+pub mod Demand3
+pub mod EveryList
 pub mod Slots
 pub mod Flat
 pub mod RecordSize

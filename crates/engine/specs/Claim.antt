@@ -3,19 +3,17 @@
 -- A list is given the latest call first, so that the calls before one are the rest of the list. `In x l` says that x stands in l.
 use Prim.Native.Nat.{ℕ, _+_, _≤_, _<_}
 use mathlib.Core.Path.{_≡_}
-use mathlib.Core.Bool.{Bool, true, false, cond}
+use mathlib.Core.Bool.{true, false, cond}
 use mathlib.Core.List.{List, [], _∷_, _++_, List·Memᴰ as In}
-use mathlib.Core.Option.{Option, none, some}
+use mathlib.Core.Option.{none, some}
 use lib.ListN.{length}
-use Rattle.message.specs.Build.{searchText, notifyText, byebyeText, responseText}
 use Rattle.engine.specs.Sizes.{recordsMax}
 use Rattle.engine.specs.Target.{targetMatch}
-use Rattle.engine.specs.Location.{rewritten}
-use Rattle.engine.specs.Held.{Text, Advertisement, held}
+use Rattle.engine.specs.Held.{Advertisement, held}
 use Rattle.engine.specs.Calls.{Call, Timeout, Query, Asks, acts, Counts, zeros, plus}
 use Rattle.engine.specs.Links.{upAddresses}
-use Rattle.engine.specs.Records.{Record, SearchFrom, NotifyFrom, ByeByeFrom, ResponseFrom, refreshRecords, salvoDue}
-use Rattle.engine.specs.Layout.{messageOf, written}
+use Rattle.engine.specs.Records.{Record, refreshRecords, salvoDue}
+use Rattle.engine.specs.Layout.{textOf, messageOf, written}
 use Rattle.engine.specs.Engine.{step}
 use Rattle.engine.specs.Ledger.{Wait, Name, withWait, waitsIn, opened, loneReply, repliesTo, Ledger, refusalIn, entry, ledgerOf, sumsOf, ledgerRecords}
 use Rattle.engine.specs.declared.advertisement.ResponseNeeded.{ResponseNeeded}
@@ -57,13 +55,6 @@ After now None = Unit {0}
 After now (Multicast due) = now < due
 After now (Unicast due sender receiver) = now < due
 
--- what the message of a record is to be: the built text, with the location rewritten for the source address
-abbrev pub textOf : Record → Text
-textOf (SearchFrom source kind) = searchText kind
-textOf (NotifyFrom source kind name location) = notifyText kind name (rewritten location source)
-textOf (ByeByeFrom source kind name) = byebyeText kind name
-textOf (ResponseFrom source to kind name location) = responseText kind name (rewritten location source)
-
 -- the records of a handle_timeout: the refresh records, if the salvo is due, then those of each wait that it ended
 abbrev pub timeoutRecords : Ledger → List Advertisement → ℕ → List Record
 timeoutRecords l as′ now =
@@ -76,31 +67,32 @@ pub record Lone (seed time : ℕ) (cs : List Call) (n : Name) (w : Wait) : Type 
   pub opening : Opened seed time cs n
   pub matching : targetMatch (w .answer) (n .kind) ≡ true
 
--- an accepted handle_timeout, behind the calls cs, on the engine e
-pub record Serves (seed time : ℕ) (cs : List Call) (now : ℕ) (e : Engine) (outbox outbox′ : List ℕ) (r : Answered) : Type 0 where
+-- an accepted handle_timeout, behind the calls cs, on the engine e; rs are the records that it writes
+pub record Serves (seed time : ℕ) (cs : List Call) (now : ℕ) (e : Engine) (r : Answered) (rs : List Record) : Type 0 where
   -- right after it nothing is due
   pub none-due : (a : Advertisement) → In a (held (r .engine) .advertisements) → After now (a .needed)
-  -- it writes the refresh records and those of the ledger's waits that it ended
-  pub records : r .answer .records ≡ length (timeoutRecords (ledgerOf seed time cs) (held e .advertisements) now)
-  pub bytes : outbox′ ≡ written (timeoutRecords (ledgerOf seed time cs) (held e .advertisements) now) outbox
+  -- its records are the refresh records and those of the ledger's waits that it ended
+  pub records : rs ≡ timeoutRecords (ledgerOf seed time cs) (held e .advertisements) now
   pub lone : (n : Name) (w : Wait) → In n (ledgerOf seed time cs .names) → n .wait ≡ some w → w .group ≡ false → w .due ≤ now → Lone seed time cs n w
 
--- each call
-pub record Exact (seed time : ℕ) (cs : List Call) (c : Call) (e : Engine) (outbox outbox′ : List ℕ) (r : Answered) : Type 0 where
+-- a call, behind the calls cs, on the engine e; rs are the records that it writes
+pub record Exact (seed time : ℕ) (cs : List Call) (c : Call) (e : Engine) (outbox outbox′ : List ℕ) (r : Answered) (rs : List Record) : Type 0 where
   -- it is refused by the ledger's number
   pub refusal : r .answer .refusal ≡ refusalIn (ledgerOf seed time cs) c
   -- its counts are what the ledger adds in that call, its waiting the waits that the ledger then holds
   pub counts : countsOf (r .answer) ≡ entry (ledgerOf seed time cs) c .adds
   pub waiting : r .answer .waiting ≡ waitsIn (ledgerOf seed time (c ∷ cs) .names)
-  -- it writes at most 120 records, and the message of each is the built text
-  pub bounded : r .answer .records ≤ recordsMax
-  pub messages : (m : Record) → In m (step (held e) c .sent) → messageOf m ≡ textOf m
-  pub serves : (now room : ℕ) → c ≡ Timeout now room → r .answer .refusal ≡ 0 → Serves seed time cs now e outbox outbox′ r
+  -- the outbox begins with its records, which are at most 120; the message of each is the built text (Layout, `textOf`)
+  pub bytes : outbox′ ≡ written rs outbox
+  pub records : r .answer .records ≡ length rs
+  pub bounded : length rs ≤ recordsMax
+  pub messages : (m : Record) → In m rs → messageOf m ≡ textOf m
+  pub serves : (now room : ℕ) → c ≡ Timeout now room → r .answer .refusal ≡ 0 → Serves seed time cs now e r rs
 
 abbrev pub Every : {New : ℕ → ℕ → Answered → Type 0} {Gives : Engine → Call → List ℕ → List ℕ → Answered → Type 0} {seed time : ℕ} {cs : List Call} {as′ : List Answer} {e : Engine} →
     Log New Gives seed time cs as′ e → Type 0
 Every (new h) = Unit {0}
-Every {seed = seed} {time = time} (call {cs = cs} {e = e} {c = c} {outbox = outbox} {outbox′ = outbox′} {r = r} l h) = Exact seed time cs c e outbox outbox′ r × Every l
+Every {seed = seed} {time = time} (call {cs = cs} {e = e} {c = c} {outbox = outbox} {outbox′ = outbox′} {r = r} l h) = Exact seed time cs c e outbox outbox′ r (step (held e) c .sent) × Every l
 
 -- DEMAND 3
 pub record Claim {New : ℕ → ℕ → Answered → Type 0} {Gives : Engine → Call → List ℕ → List ℕ → Answered → Type 0} {seed time : ℕ} {cs : List Call} {as′ : List Answer} {e : Engine}

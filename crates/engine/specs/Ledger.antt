@@ -16,7 +16,7 @@ use Rattle.engine.specs.Held.{Text, Context, byName}
 use Rattle.engine.specs.Calls.{Call, Query, Act, Enters, Leaves, Asks, Ticks, acts, Counts, zeros, plus}
 use Rattle.engine.specs.Links.{contextAfter}
 use Rattle.engine.specs.Records.{Record, NotifyFrom, ResponseFrom, flat}
-use Rattle.engine.specs.Refusals.{Names, late, refusal}
+use Rattle.engine.specs.Refusals.{late, refusal}
 use Rattle.engine.specs.declared.advertisement.Endpoint.{Endpoint}
 
 -- a wait: its due instant, sender, receiving address and answer type, and whether it goes to the group

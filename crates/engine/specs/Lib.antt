@@ -1,9 +1,10 @@
+-- The engine's definitions, a file for each subject, in the order of document 01; the reply ledger and the claim about every list of calls stand last.
 pub mod Sizes
 pub mod Table
-pub mod RefreshTimer
-pub mod Flags
 pub mod Target
 pub mod Location
+pub mod RefreshTimer
+pub mod Flags
 pub mod Delay
 pub mod Held
 pub mod Calls
@@ -16,3 +17,4 @@ pub mod Refusals
 pub mod Engine
 pub mod Ledger
 pub mod Claim
+pub mod StarCases

@@ -1,0 +1,155 @@
+-- What an accepted call has passed: every check of its list is false, so that what it brings to the names is within its sizes and a good text.
+use mathlib.Core.Path.{_≡_, refl}
+use mathlib.Core.Bool.{Bool, true, false, cond, not, _&&_, _||_, true≢false}
+use mathlib.Core.List.{List, [], _∷_}
+use Prim.Native.Nat.{ℕ, _≤_}
+use native.Mathlib.Omega.{arith}
+use lib.Dec.{leb}
+use lib.ListN.{length}
+use borrow.Author.Tests.{ltb-false, not-false, not-true, eqb-false}
+use Rattle.text.specs.Good.{goodText}
+use Rattle.message.specs.Parse.{parsed, fieldAt, parseRefusal}
+use Rattle.message.specs.Build.{typeMax, nameMax, atMost}
+use Rattle.message.proofs.Sending.{Fit}
+use Rattle.message.specs.declared.Message.{Message}
+use Rattle.message.specs.declared.Message.the-variants.{Empty, Invalid, NotifyAlive, NotifyByeBye, Search, Response}
+use Rattle.engine.specs.Sizes.{advertisementsMax, locationMax}
+use Rattle.engine.specs.Table.{known}
+use Rattle.engine.specs.Held.{Text, Context, Held, Advertisement, advertised}
+use Rattle.engine.specs.Calls.{Call, NewLink, DeletedLink, NewAddress, DeletedAddress, Subscribe, Advertise, Deadvertise, Refresh, Datagram, Timeout, ResetTimer, Act, Enters, Leaves, Asks, Ticks, asks, acts}
+use Rattle.engine.specs.Refusals.{Check, firstOf, Names, over, bad, searchChecks, checks, refusal}
+use Rattle.engine.specs.Engine.{namesOf, turned}
+use Rattle.engine.specs.declared.advertisement.Endpoint.{Endpoint}
+use Rattle.engine.proofs.Members.{Each, nobody, both}
+
+-- ---- a list of checks
+abbrev pub Passed : List Check → Type 0
+Passed [] = Unit {0}
+Passed (c ∷ cs) = (c .fails ≡ false) × Passed cs
+
+-- a check that fails has a number
+abbrev Numbered : List Check → Type 0
+Numbered [] = Unit {0}
+Numbered (c ∷ cs) = (c .fails ≡ true → c .number ≡ 0 → ⊥) × Numbered cs
+
+all-passed : (cs : List Check) → Numbered cs → firstOf cs ≡ 0 → Passed cs
+all-passed [] h e = tt
+all-passed (c ∷ cs) h e = go (c .fails) (h .0) (all-passed cs (h .1)) e
+  where
+    go : (b : Bool) → (b ≡ true → c .number ≡ 0 → ⊥) → (firstOf cs ≡ 0 → Passed cs) → cond b (c .number) (firstOf cs) ≡ 0 → (b ≡ false) × Passed cs
+    go true n p e = absurd (n refl e)
+    go false n p e = (refl, p e)
+
+search-numbered : (s : List ℕ) (m : Message) → Numbered (searchChecks s m)
+search-numbered s Empty = tt
+search-numbered s Invalid = tt
+search-numbered s (NotifyAlive nt usn l) = tt
+search-numbered s (NotifyByeBye nt usn) = tt
+search-numbered s (Search st mx) = (λ b. omega arith, (λ b. omega arith, tt))
+search-numbered s (Response st usn l) = tt
+
+numbered : (x : Context) (n : Names) (c : Call) → Numbered (checks x n c)
+unfolding checks
+numbered x n (NewLink index flags outcome room) = (λ b. omega arith, (λ b. omega arith, (λ b. omega arith, (λ b. omega arith, tt))))
+numbered x n (DeletedLink index outcome) = (λ b. omega arith, tt)
+numbered x n (NewAddress index address room) = (λ b. omega arith, (λ b. omega arith, (λ b. omega arith, (λ b. omega arith, tt))))
+numbered x n (DeletedAddress index address) = (λ b. omega arith, (λ b. omega arith, tt))
+numbered x n (Subscribe kind room) = (λ b. omega arith, (λ b. omega arith, (λ b. omega arith, (λ b. omega arith, tt))))
+numbered x n (Advertise name kind location room) = (λ b. omega arith, (λ b. omega arith, (λ b. omega arith, (λ b. omega arith, tt))))
+numbered x n (Deadvertise name room) = (λ b. omega arith, tt)
+numbered x n (Refresh room) = (λ b. omega arith, tt)
+numbered x n (Datagram now sender receiver s) =
+    (λ b. omega arith, (λ b e. eqb-false (parseRefusal (parsed s)) 0 (not-true _ b) e, search-numbered s (parsed s)))
+numbered x n (Timeout now room) = (λ b. omega arith, (λ b. omega arith, tt))
+numbered x n (ResetTimer now) = (λ b. omega arith, tt)
+
+pub passed : (x : Context) (n : Names) (c : Call) → refusal x n c ≡ 0 → Passed (checks x n c)
+unfolding refusal
+passed x n c e = all-passed (checks x n c) (numbered x n c) e
+
+-- ---- texts
+pub or-false : (a b : Bool) → (a || b) ≡ false → (a ≡ false) × (b ≡ false)
+or-false true b e = absurd (true≢false e)
+or-false false b e = (refl, e)
+
+-- a text that the build functions take
+abbrev pub Fits : ℕ → Text → Type 0
+Fits max t = Fit (atMost max t)
+
+pub fits-passed : (max : ℕ) (t : Text) → over max t ≡ false → bad t ≡ false → Fits max t
+fits-passed max t o b = record { size = ltb-false max (length t) o; good = not-false (goodText t) b }
+
+-- three texts, of which none is over its size and none is bad
+pub three-fit : (k l m : ℕ) (s t u : Text) → (over k s || over l t || over m u) ≡ false → (bad s || bad t || bad u) ≡ false →
+    Fits k s × Fits l t × Fits m u
+three-fit k l m s t u o b =
+    let o′ = or-false (over k s || over l t) (over m u) o in
+    let o″ = or-false (over k s) (over l t) (o′ .0) in
+    let b′ = or-false (bad s || bad t) (bad u) b in
+    let b″ = or-false (bad s) (bad t) (b′ .0) in
+    (fits-passed k s (o″ .0) (b″ .0), fits-passed l t (o″ .1) (b″ .1), fits-passed m u (o′ .1) (b′ .1))
+
+-- ---- a call does one thing to the names, or none
+abbrev pub Single : List Act → Type 0
+Single [] = Unit {0}
+Single (x ∷ []) = Unit {0}
+Single (x ∷ y ∷ xs) = ⊥
+
+single-asks : (now : ℕ) (sender : Endpoint) (receiver : ℕ) (s : List ℕ) (m : Message) → Single (asks now sender receiver s m)
+single-asks now sender receiver s Empty = tt
+single-asks now sender receiver s Invalid = tt
+single-asks now sender receiver s (NotifyAlive nt usn l) = tt
+single-asks now sender receiver s (NotifyByeBye nt usn) = tt
+single-asks now sender receiver s (Search st mx) = tt
+single-asks now sender receiver s (Response st usn l) = tt
+
+pub single : (c : Call) → Single (acts c)
+unfolding acts
+single (NewLink index flags outcome room) = tt
+single (DeletedLink index outcome) = tt
+single (NewAddress index address room) = tt
+single (DeletedAddress index address) = tt
+single (Subscribe kind room) = tt
+single (Advertise name kind location room) = tt
+single (Deadvertise name room) = tt
+single (Refresh room) = tt
+single (Datagram now sender receiver s) = single-asks now sender receiver s (parsed s)
+single (Timeout now room) = tt
+single (ResetTimer now) = tt
+
+-- ---- what a call brings to the names
+abbrev pub Brings : List Advertisement → Act → Type 0
+Brings as′ (Enters name kind location) =
+    Fits nameMax name × Fits typeMax kind × Fits locationMax location × ((not (known advertised name as′) && leb advertisementsMax (length as′)) ≡ false)
+Brings as′ (Leaves name) = Unit {0}
+Brings as′ (Asks q) = length (q .target) ≤ typeMax
+Brings as′ (Ticks now) = Unit {0}
+
+asks-bring : (as′ : List Advertisement) (now : ℕ) (sender : Endpoint) (receiver : ℕ) (s : List ℕ) (m : Message) →
+    Passed (searchChecks s m) → Each (Brings as′) (asks now sender receiver s m)
+asks-bring as′ now sender receiver s Empty p = nobody
+asks-bring as′ now sender receiver s Invalid p = nobody
+asks-bring as′ now sender receiver s (NotifyAlive nt usn l) p = nobody
+asks-bring as′ now sender receiver s (NotifyByeBye nt usn) p = nobody
+asks-bring as′ now sender receiver s (Search st mx) p = both (ltb-false typeMax (length (fieldAt s st)) (p .1 .0)) nobody
+asks-bring as′ now sender receiver s (Response st usn l) p = nobody
+
+brings-at : (h : Held) (c : Call) → Passed (checks (h .context) (namesOf h c) c) → Each (Brings (h .advertisements)) (acts c)
+unfolding acts checks namesOf
+brings-at h (NewLink index flags outcome room) p = nobody
+brings-at h (DeletedLink index outcome) p = nobody
+brings-at h (NewAddress index address room) p = nobody
+brings-at h (DeletedAddress index address) p = nobody
+brings-at h (Subscribe kind room) p = nobody
+brings-at h (Advertise name kind location room) p =
+    let t = three-fit nameMax typeMax locationMax name kind location (p .1 .0) (p .1 .1 .0) in
+    both {a = Enters name kind location} (t .0, t .1, t .2, p .1 .1 .1 .0) nobody
+brings-at h (Deadvertise name room) p = both {a = Leaves name} tt nobody
+brings-at h (Refresh room) p = nobody
+brings-at h (Datagram now sender receiver s) p = asks-bring (h .advertisements) now sender receiver s (parsed s) (p .1 .1)
+brings-at h (Timeout now room) p = both {a = Ticks now} tt nobody
+brings-at h (ResetTimer now) p = nobody
+
+pub brings : (h : Held) (c : Call) → turned h c ≡ 0 → Each (Brings (h .advertisements)) (acts c)
+unfolding turned
+brings h c e = brings-at h c (passed (h .context) (namesOf h c) c e)

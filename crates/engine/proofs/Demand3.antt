@@ -23,7 +23,7 @@ use Rattle.engine.specs.declared.advertisement.ResponseNeeded.the-varian
 use Rattle.engine.specs.declared.engine.Engine.{Engine}
 use Rattle.engine.specs.declared.engine.Answer.{Answer}
 use Rattle.engine.specs.declared.engine.Answered.{Answered}
-use Rattle.engine.proofs.Assumed.{Laws}
+use Rattle.engine.proofs.LeafLaws.{Laws}
 use Rattle.engine.proofs.Members.{Each, nobody, both, each-at}
 use Rattle.engine.proofs.Agreement.{Agree, SameCounts, no-counts, plus-same, same-counts, step-same, turned-same, served-same}
 use Rattle.engine.proofs.Balance.{ledger-level}

@@ -21,7 +21,7 @@ use Rattle.engine.specs.Engine.{namesOf, turned, Step, accepted, unless,
 use Rattle.engine.specs.declared.advertisement.Endpoint.{Endpoint}
 use Rattle.engine.specs.declared.advertisement.ResponseNeeded.{ResponseNeeded}
 use Rattle.engine.specs.declared.advertisement.ResponseNeeded.the-variants.{None, Multicast, Unicast}
-use Rattle.engine.proofs.Assumed.{Laws}
+use Rattle.engine.proofs.LeafLaws.{Laws}
 use Rattle.engine.proofs.Members.{Each, nobody, both, each-cond, each-append, each-map, each-flat, each-entry}
 use Rattle.engine.proofs.Accepted.{Passed, passed, Fits, fits-passed, three-fit}
 use Rattle.engine.proofs.Reachable.{AnswerFits, TextsFit, Listed, Subscribed, Reachable}

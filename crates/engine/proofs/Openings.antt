@@ -13,7 +13,7 @@ use Rattle.engine.specs.Links.{contextAfter}
 use Rattle.engine.specs.Ledger.{Wait, Name, named, withWait, Change, joined, searched, dueAt, timedOut, each, turn, turns, Ledger, refusalIn, entered, ifAccepted, entry, ledgerOf}
 use Rattle.engine.specs.Claim.{Opened, here, later}
 use Rattle.engine.proofs.Accepted.{Single, single}
-use Rattle.engine.proofs.Assumed.{Laws}
+use Rattle.engine.proofs.LeafLaws.{Laws}
 use Rattle.engine.proofs.Members.{Each, nobody, both, each-at, each-by, each-as, each-enter, each-leave}
 
 abbrev pub LoneWait : Option Wait → Type 0

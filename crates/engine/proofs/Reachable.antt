@@ -25,7 +25,7 @@ use Rattle.engine.specs.Engine.{namesOf, turned, Step, accepted, unless,
 use Rattle.engine.specs.declared.advertisement.Endpoint.{Endpoint}
 use Rattle.engine.specs.declared.advertisement.ResponseNeeded.{ResponseNeeded}
 use Rattle.engine.specs.declared.advertisement.ResponseNeeded.the-variants.{None, Multicast, Unicast}
-use Rattle.engine.proofs.Assumed.{Laws}
+use Rattle.engine.proofs.LeafLaws.{Laws}
 use Rattle.engine.proofs.Members.{Each, nobody, both, each-append, each-map, each-enter, each-leave}
 use Rattle.engine.proofs.Ascending.{Ascending, empty, ascending-enter, ascending-leave, ascending-map, in-known, known-in, length-enter, length-enter-known, length-leave}
 use Rattle.engine.proofs.Orders.{by-name, by-number}

@@ -77,3 +77,8 @@ pub record Sends (outbox : List ℕ) (k : ℕ) (rs : List Record) (after : List 
   pub number : next ≡ k + length rs
   pub room : recordSize * next ≤ length outbox
   pub bytes : after ≡ take (recordSize * k) outbox ++ layout rs ++ drop (recordSize * next) outbox
+
+-- the records of a call were written, the first at the outbox's start: `after` is the outbox then, `count` their number
+pub record Sent (rs : List Record) (outbox after : List ℕ) (count : ℕ) : Type 0 where
+  pub number : count ≡ length rs
+  pub bytes : after ≡ written rs outbox

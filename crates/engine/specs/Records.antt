@@ -47,6 +47,9 @@ searchOn up kind = map (λ source. SearchFrom source kind) up
 abbrev pub notifyOn : List ℕ → Advertisement → List Record
 notifyOn up a = map (notify a) up
 
+abbrev pub byebyeOn : List ℕ → Advertisement → List Record
+byebyeOn up a = map (λ source. ByeByeFrom source (a .kind) (a .name)) up
+
 -- all advertisements, then the searches, from each of these addresses
 abbrev pub refreshOn : List ℕ → List Text → List Advertisement → List Record
 refreshOn up subscriptions as′ = flat (notifyOn up) as′ ++ flat (searchOn up) (searchesOf subscriptions)
@@ -62,11 +65,15 @@ allFrom subscriptions as′ source = map (SearchFrom source) (searchesOf subscri
 unfoldable pub addressRecords : Context → List Advertisement → ℕ → List Record
 addressRecords x as′ source = allFrom (x .subscriptions) as′ source
 
+-- the reply to a lone searcher, from the address that its search reached
+abbrev pub responseTo : Advertisement → Endpoint → ℕ → Record
+responseTo a to source = ResponseFrom source to (a .answer) (a .name) (a .location)
+
 -- a reply that waits no more: to the lone searcher, or to the group from each address on an up link
 abbrev pub replyRecords : List ℕ → Advertisement → ResponseNeeded → List Record
 replyRecords up a None = []
 replyRecords up a (Multicast due) = notifyOn up a
-replyRecords up a (Unicast due sender receiver) = ResponseFrom receiver sender (a .answer) (a .name) (a .location) ∷ []
+replyRecords up a (Unicast due sender receiver) = responseTo a sender receiver ∷ []
 
 abbrev pub isDue : ℕ → ResponseNeeded → Bool
 isDue time None = false
@@ -75,6 +82,10 @@ isDue time (Unicast due sender receiver) = leb due time
 
 unfoldable pub dueRecords : ℕ → List ℕ → Advertisement → List Record
 dueRecords time up a = cond (isDue time (a .needed)) (replyRecords up a (a .needed)) []
+
+-- the records of a handle_timeout: the refresh records, if the salvo is due, then those of each wait that it ended
+abbrev pub timeoutOn : List ℕ → Bool → ℕ → List Text → List Advertisement → List Record
+timeoutOn up due time subscriptions as′ = cond due (refreshOn up subscriptions as′) [] ++ flat (dueRecords time up) as′
 
 -- the salvo of a handle_timeout
 abbrev pub salvoDue : Context → ℕ → Bool
@@ -94,7 +105,7 @@ records x as′ (DeletedAddress index address) = []
 records x as′ (Subscribe kind room) = searchOn (upAddresses (x .links)) kind
 records x as′ (Advertise name kind location room) = map (λ source. NotifyFrom source kind name location) (upAddresses (x .links))
 records x as′ (Deadvertise name room) =
-    flat (λ a. map (λ source. ByeByeFrom source (a .kind) (a .name)) (upAddresses (x .links))) (entryOf advertised name as′)
+    flat (byebyeOn (upAddresses (x .links))) (entryOf advertised name as′)
 records x as′ (Refresh room) = refreshRecords x as′
 records x as′ (Datagram time sender receiver s) = []
 records x as′ (Timeout time room) =

@@ -16,6 +16,51 @@ use Rattle.engine.specs.Held.{Text, Link, Context, byIndex}
 use Rattle.engine.specs.Calls.{Call, NewLink, DeletedLink, NewAddress, DeletedAddress, Subscribe, Advertise, Deadvertise, Refresh, Datagram, Timeout, ResetTimer}
 use Rattle.engine.specs.Links.{addressesOf, linkAt, stores, isV4, isV6}
 
+-- ---- document 01's numbers; 3 and 4 are the message crate's too, 6 is its alone, and 7 and 8 are those of `parse`
+-- time above 2^63 − 1
+abbrev pub timeLate : ℕ
+timeLate = 1
+
+-- outbox under 62,880 bytes
+abbrev pub outboxShort : ℕ
+outboxShort = 2
+
+-- a text over its size
+abbrev pub textOverSize : ℕ
+textOverSize = 3
+
+-- a text not UTF-8, holding byte 10 or 13, or starting or ending in white space
+abbrev pub textNotGood : ℕ
+textNotGood = 4
+
+-- ninth name or fifth subscription
+abbrev pub tableFull : ℕ
+tableFull = 5
+
+-- MX 0
+abbrev pub waitZero : ℕ
+waitZero = 9
+
+-- search target over 80 bytes
+abbrev pub targetOverSize : ℕ
+targetOverSize = 10
+
+-- index 0
+abbrev pub indexZero : ℕ
+indexZero = 11
+
+-- address neither 4 nor 16 bytes
+abbrev pub addressLength : ℕ
+addressLength = 12
+
+-- a new multicast link when three are held, or a third address that would be stored
+abbrev pub linksFull : ℕ
+linksFull = 13
+
+-- join outcome not 0 for a new multicast link
+abbrev pub joinFailed : ℕ
+joinFailed = 14
+
 -- a test that refuses, and its number
 pub record Check : Type 0 where
   pub fails : Bool
@@ -54,46 +99,46 @@ searchChecks s Empty = []
 searchChecks s Invalid = []
 searchChecks s (NotifyAlive nt usn l) = []
 searchChecks s (NotifyByeBye nt usn) = []
-searchChecks s (Search st mx) = eqb mx 0 refuses 9 ∷ over typeMax (fieldAt s st) refuses 10 ∷ []
+searchChecks s (Search st mx) = eqb mx 0 refuses waitZero ∷ over typeMax (fieldAt s st) refuses targetOverSize ∷ []
 searchChecks s (Response st usn l) = []
 
 unfoldable pub checks : Context → Names → Call → List Check
 checks x n (NewLink index flags outcome room) =
-    ltb room (n .need) refuses 2
-    ∷ eqb index 0 refuses 11
-    ∷ (newMulticast index flags (x .links) && leb linksMax (length (x .links))) refuses 13
-    ∷ (newMulticast index flags (x .links) && not (eqb outcome 0)) refuses 14
+    ltb room (n .need) refuses outboxShort
+    ∷ eqb index 0 refuses indexZero
+    ∷ (newMulticast index flags (x .links) && leb linksMax (length (x .links))) refuses linksFull
+    ∷ (newMulticast index flags (x .links) && not (eqb outcome 0)) refuses joinFailed
     ∷ []
-checks x n (DeletedLink index outcome) = eqb index 0 refuses 11 ∷ []
+checks x n (DeletedLink index outcome) = eqb index 0 refuses indexZero ∷ []
 checks x n (NewAddress index address room) =
-    ltb room (n .need) refuses 2
-    ∷ eqb index 0 refuses 11
-    ∷ not (isV4 address || isV6 address) refuses 12
-    ∷ (stores index address (x .links) && leb addressesMax (length (addressesOf (linkAt index (x .links))))) refuses 13
+    ltb room (n .need) refuses outboxShort
+    ∷ eqb index 0 refuses indexZero
+    ∷ not (isV4 address || isV6 address) refuses addressLength
+    ∷ (stores index address (x .links) && leb addressesMax (length (addressesOf (linkAt index (x .links))))) refuses linksFull
     ∷ []
-checks x n (DeletedAddress index address) = eqb index 0 refuses 11 ∷ not (isV4 address || isV6 address) refuses 12 ∷ []
+checks x n (DeletedAddress index address) = eqb index 0 refuses indexZero ∷ not (isV4 address || isV6 address) refuses addressLength ∷ []
 checks x n (Subscribe kind room) =
-    ltb room (n .need) refuses 2
-    ∷ over typeMax kind refuses 3
-    ∷ bad kind refuses 4
-    ∷ leb subscriptionsMax (length (x .subscriptions)) refuses 5
+    ltb room (n .need) refuses outboxShort
+    ∷ over typeMax kind refuses textOverSize
+    ∷ bad kind refuses textNotGood
+    ∷ leb subscriptionsMax (length (x .subscriptions)) refuses tableFull
     ∷ []
 checks x n (Advertise name kind location room) =
-    ltb room (n .need) refuses 2
-    ∷ (over nameMax name || over typeMax kind || over locationMax location) refuses 3
-    ∷ (bad name || bad kind || bad location) refuses 4
-    ∷ (not (n .holds name) && leb advertisementsMax (n .count)) refuses 5
+    ltb room (n .need) refuses outboxShort
+    ∷ (over nameMax name || over typeMax kind || over locationMax location) refuses textOverSize
+    ∷ (bad name || bad kind || bad location) refuses textNotGood
+    ∷ (not (n .holds name) && leb advertisementsMax (n .count)) refuses tableFull
     ∷ []
-checks x n (Deadvertise name room) = ltb room (n .need) refuses 2 ∷ []
-checks x n (Refresh room) = ltb room (n .need) refuses 2 ∷ []
+checks x n (Deadvertise name room) = ltb room (n .need) refuses outboxShort ∷ []
+checks x n (Refresh room) = ltb room (n .need) refuses outboxShort ∷ []
 checks x n (Datagram time sender receiver s) =
-    late time refuses 1 ∷ not (eqb (parseRefusal (parsed s)) 0) refuses parseRefusal (parsed s) ∷ searchChecks s (parsed s)
-checks x n (Timeout time room) = late time refuses 1 ∷ ltb room (n .need) refuses 2 ∷ []
-checks x n (ResetTimer time) = late time refuses 1 ∷ []
+    late time refuses timeLate ∷ not (eqb (parseRefusal (parsed s)) 0) refuses parseRefusal (parsed s) ∷ searchChecks s (parsed s)
+checks x n (Timeout time room) = late time refuses timeLate ∷ ltb room (n .need) refuses outboxShort ∷ []
+checks x n (ResetTimer time) = late time refuses timeLate ∷ []
 
 unfoldable pub refusal : Context → Names → Call → ℕ
 refusal x n c = firstOf (checks x n c)
 
 -- `new` refuses a late time alone
 unfoldable pub newRefusal : ℕ → ℕ
-newRefusal time = firstOf (late time refuses 1 ∷ [])
+newRefusal time = firstOf (late time refuses timeLate ∷ [])

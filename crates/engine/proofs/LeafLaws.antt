@@ -1,5 +1,4 @@
--- What the claim rests on of the leaves below it: laws of `targetMatch` and of `rewritten`, each proved where its definition stands.
--- They are handed in, never assumed: whoever cites the claim gives this record.
+-- What the claim rests on of the leaves below it: laws of `targetMatch` and of `rewritten`, gathered so that its proofs see these and no more.
 use Prim.Native.Nat.{ℕ, _+_, _≤_}
 use mathlib.Core.Path.{_≡_}
 use mathlib.Core.Bool.{true, false}
@@ -9,6 +8,8 @@ use Rattle.text.specs.Good.{goodText}
 use Rattle.engine.specs.Target.{ssdpAll, targetMatch}
 use Rattle.engine.specs.Location.{rewritten}
 use Rattle.engine.specs.Held.{Text}
+use Rattle.engine.proofs.Matching as matching
+use Rattle.engine.proofs.Rewriting as rewriting
 
 pub record Laws : Type 0 where
   -- a type matches itself; a target that matches a good type, other than `ssdp:all`, is a good text
@@ -17,3 +18,12 @@ pub record Laws : Type 0 where
   -- a rewritten location stays a good text and grows by a dotted address at most
   pub rewritten-good : (l : Text) (a : ℕ) → goodText l ≡ true → goodText (rewritten l a) ≡ true
   pub rewritten-length : (l : Text) (a : ℕ) → length (rewritten l a) ≤ length l + 15
+
+-- each is proved where its definition stands
+pub laws : Laws
+laws = record {
+  match-self = matching.match-self;
+  match-good = matching.match-good;
+  rewritten-good = rewriting.rewritten-good;
+  rewritten-length = rewriting.rewritten-length;
+}

@@ -1,0 +1,121 @@
+// One message to the group from every address on an up link: document 01, 'Outbox'.
+// The contracts cite specs/Announcements.antt and, for what is written, `Sends` of specs/Layout.antt.
+use crate::advertisement::ActiveAdvertisement;
+use crate::clamp::least;
+use crate::field::front80;
+use crate::field::front120;
+use crate::field::front128;
+use crate::outbox::byebye_on;
+use crate::outbox::notify_on;
+use crate::outbox::search_on;
+use crate::subscription::ActiveSearch;
+ghost use mathlib.Core.List.{[], _∷_};
+ghost use Prim.Native.Nat.{_+_, _*_, _≤_};
+ghost use lib.ListN.{length, take};
+ghost use Rattle.engine.specs.Sizes.{recordSize, locationMax};
+ghost use Rattle.engine.specs.Held.{advertisementOf, kindOf};
+ghost use Rattle.engine.specs.Records.{searchOn};
+ghost use Rattle.engine.specs.Layout.{Room, Sends};
+ghost use Rattle.engine.specs.Announcements.{announced, announcedOn, entryOn};
+
+// What is said: a search for a type, that a service is there, that a service goes.
+pub enum Announcement {
+    Search,
+    Alive,
+    ByeBye,
+}
+
+// Record k: an announcement from one address. Answers the next record's number.
+fn announce(
+    outbox: &mut [u8],
+    k: usize,
+    source: u32,
+    what: Announcement,
+    kind: &[u8],
+    name: &[u8],
+    location: &[u8],
+) -> usize
+    requires { ⌜ (recordSize * (k + 1) ≤ length (now outbox)) × (length (now location) ≤ locationMax) ⌝ }
+    ensures { λ r. ⌜ Sends (now (outbox .entry)) k (announced what (now (kind .entry)) (now (name .entry)) (now (location .entry)) source ∷ []) (now (outbox .exit)) r ⌝ }
+{
+    match what {
+        Announcement::Search => search_on(outbox, k, source, kind),
+        Announcement::Alive => notify_on(outbox, k, source, kind, name, location),
+        Announcement::ByeBye => byebye_on(outbox, k, source, kind, name),
+    }
+}
+
+// From record k on: an announcement from each of the first `n` addresses. Answers the next record's number.
+pub(crate) fn announce_on_all(
+    outbox: &mut [u8],
+    k: usize,
+    up: [u32; 6],
+    n: usize,
+    what: Announcement,
+    kind: &[u8],
+    name: &[u8],
+    location: &[u8],
+) -> usize
+    requires { ⌜ Room (now outbox) k (announcedOn (take n up) what (now kind) (now name) (now location)) × (length (now location) ≤ locationMax) ⌝ }
+    ensures { λ r. ⌜ Sends (now (outbox .entry)) k (announcedOn (take n up) what (now (kind .entry)) (now (name .entry)) (now (location .entry))) (now (outbox .exit)) r ⌝ }
+{
+    let m = least(n, 6);
+    let mut at = k;
+    let mut i = 0;
+    while i < m {
+        at = announce(outbox, at, up[i], what, kind, name, location);
+        i += 1;
+    }
+    at
+}
+
+// From record k on: an announcement of an advertisement from each of the first `n` addresses. Answers the next record's number.
+pub(crate) fn announce_entry(
+    outbox: &mut [u8],
+    k: usize,
+    up: [u32; 6],
+    n: usize,
+    what: Announcement,
+    a: ActiveAdvertisement,
+) -> usize
+    requires { ⌜ Room (now outbox) k (entryOn (take n up) what (advertisementOf a)) ⌝ }
+    ensures { λ r. ⌜ Sends (now (outbox .entry)) k (entryOn (take n up) what (advertisementOf a)) (now (outbox .exit)) r ⌝ }
+{
+    let kind = a.kind;
+    let name = a.name;
+    let location = a.location;
+    announce_on_all(
+        outbox,
+        k,
+        up,
+        n,
+        what,
+        front80(&kind, a.kind_len),
+        front128(&name, a.name_len),
+        front120(&location, a.location_len),
+    )
+}
+
+// From record k on: a subscription's search from each of the first `n` addresses. Answers the next record's number.
+pub(crate) fn search_entry(
+    outbox: &mut [u8],
+    k: usize,
+    up: [u32; 6],
+    n: usize,
+    s: ActiveSearch,
+) -> usize
+    requires { ⌜ Room (now outbox) k (searchOn (take n up) (kindOf s)) ⌝ }
+    ensures { λ r. ⌜ Sends (now (outbox .entry)) k (searchOn (take n up) (kindOf s)) (now (outbox .exit)) r ⌝ }
+{
+    let kind = s.kind;
+    announce_on_all(
+        outbox,
+        k,
+        up,
+        n,
+        Announcement::Search,
+        front80(&kind, s.kind_len),
+        b"",
+        b"",
+    )
+}

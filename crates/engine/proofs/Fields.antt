@@ -6,7 +6,7 @@ use native.Mathlib.Decide.{decLe}
 use native.Mathlib.Omega.{arith}
 use lib.ListN.{length, take, drop, length-append, length-drop, drop-of-length-le}
 use lib.Seq.{take-all, take-at, length-take-le}
-use Rattle.message.specs.Put.{overwritten, Put}
+use Rattle.text.specs.Put.{overwritten, Put}
 
 -- cut to the array's m bytes, it is the text cut to m bytes
 pub in-front : (text : List ℕ) {b b′ t : List ℕ} {m r : ℕ} → length b ≡ m → t ≡ take m text → Put b 0 t b′ r → take (length text) b′ ≡ take m text

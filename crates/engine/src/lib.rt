@@ -1,4 +1,5 @@
 // The discovery engine: what is held, and the calls on it. Sockets, clock and interface news stay with the host.
+mod address;
 pub mod advertisement;
 mod announce;
 mod buffer;
@@ -10,12 +11,14 @@ mod field;
 pub mod flags;
 pub mod interface;
 mod location;
+mod news;
 mod outbox;
 pub mod refresh_timer;
 mod refusals;
 mod replies;
 mod salvo;
 mod send;
+mod source;
 pub mod subscription;
 mod table;
 mod target;

@@ -20,7 +20,7 @@ fn byte_at(bytes: &[u8], i: usize) -> u32
 }
 
 // The number of four bytes, the highest first.
-pub fn number_of(bytes: &[u8]) -> u32
+pub(crate) fn number_of(bytes: &[u8]) -> u32
     ensures { λ r. ⌜ r ≡ addressOf (now (bytes .entry)) ⌝ }
 {
     let a = byte_at(bytes, 0);
@@ -31,7 +31,7 @@ pub fn number_of(bytes: &[u8]) -> u32
 }
 
 // How many addresses a link has.
-pub fn count_of(link: Interface) -> usize
+pub(crate) fn count_of(link: Interface) -> usize
     ensures { λ r. ⌜ r ≡ length (take (link .count) (link .addresses)) ⌝ }
 {
     least(link.count, 2)
@@ -54,14 +54,14 @@ fn place_of(link: Interface, address: u32) -> usize
 }
 
 // Whether a link has an address.
-pub fn has_address(link: Interface, address: u32) -> bool
+pub(crate) fn has_address(link: Interface, address: u32) -> bool
     ensures { λ r. ⌜ r ≡ contains address (take (link .count) (link .addresses)) ⌝ }
 {
     place_of(link, address) < least(link.count, 2)
 }
 
 // A link with an address behind its others, if there is room.
-pub fn with_address(link: Interface, address: u32) -> Interface
+pub(crate) fn with_address(link: Interface, address: u32) -> Interface
     ensures { λ r. ⌜ (leb addressesMax (length (take (link .count) (link .addresses))) ≡ false → linkOf r ≡ linkWith (link .index) (link .up) (take (link .count) (link .addresses) ++ (address ∷ []))) ⌝ }
 {
     let n = least(link.count, 2);
@@ -74,7 +74,7 @@ pub fn with_address(link: Interface, address: u32) -> Interface
 }
 
 // A link without an address: its last one takes that place.
-pub fn without_address(link: Interface, address: u32) -> Interface
+pub(crate) fn without_address(link: Interface, address: u32) -> Interface
     ensures { λ r. ⌜ linkOf r ≡ linkWith (link .index) (link .up) (lastInto address (take (link .count) (link .addresses))) ⌝ }
 {
     let n = least(link.count, 2);

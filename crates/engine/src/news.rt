@@ -20,7 +20,7 @@ ghost use Rattle.engine.specs.Records.{turnsUp};
 ghost use Rattle.engine.specs.Refusals.{newMulticast};
 
 // Whether news is of a multicast link that is not held.
-pub fn is_new(t: Interfaces, index: u32, flags: u32) -> bool
+pub(crate) fn is_new(t: Interfaces, index: u32, flags: u32) -> bool
     ensures { λ r. ⌜ r ≡ newMulticast index flags (linksOf t) ⌝ }
 {
     let spot = spot_of(t, index);
@@ -28,7 +28,7 @@ pub fn is_new(t: Interfaces, index: u32, flags: u32) -> bool
 }
 
 // Whether news is of a held link that was not up and now is.
-pub fn turns_up(t: Interfaces, index: u32, flags: u32) -> bool
+pub(crate) fn turns_up(t: Interfaces, index: u32, flags: u32) -> bool
     ensures { λ r. ⌜ r ≡ turnsUp index flags (linksOf t) ⌝ }
 {
     let held = held_at(t, index);
@@ -37,7 +37,7 @@ pub fn turns_up(t: Interfaces, index: u32, flags: u32) -> bool
 }
 
 // Whether an address that the kernel tells of is to be stored: an IPv4 address that a held link does not have.
-pub fn is_stored(t: Interfaces, index: u32, address: &[u8]) -> bool
+pub(crate) fn is_stored(t: Interfaces, index: u32, address: &[u8]) -> bool
     ensures { λ r. ⌜ r ≡ stores index (now (address .entry)) (linksOf t) ⌝ }
 {
     let held = held_at(t, index);
@@ -56,7 +56,7 @@ fn with_state(link: Interface, up: bool) -> Interface
 }
 
 // The links after news of a link. A new one enters if there is room.
-pub fn link_told(t: Interfaces, index: u32, flags: u32) -> Interfaces
+pub(crate) fn link_told(t: Interfaces, index: u32, flags: u32) -> Interfaces
     ensures { λ r. ⌜ ((newMulticast index flags (linksOf t) && leb linksMax (length (linksOf t))) ≡ false → linksOf r ≡ linkNews index flags (linksOf t)) ⌝ }
 {
     if Flags(flags).is_multicast() {
@@ -69,7 +69,7 @@ pub fn link_told(t: Interfaces, index: u32, flags: u32) -> Interfaces
 }
 
 // The links after news of an address, if there is room for it.
-pub fn address_told(t: Interfaces, index: u32, address: &[u8]) -> Interfaces
+pub(crate) fn address_told(t: Interfaces, index: u32, address: &[u8]) -> Interfaces
     ensures { λ r. ⌜ ((stores index (now (address .entry)) (linksOf t) && leb addressesMax (length (addressesOf (linkAt index (linksOf t))))) ≡ false → linksOf r ≡ addressNews index (now (address .entry)) (linksOf t)) ⌝ }
 {
     if is_stored(t, index, address) {
@@ -81,7 +81,7 @@ pub fn address_told(t: Interfaces, index: u32, address: &[u8]) -> Interfaces
 }
 
 // The links after an address has gone.
-pub fn address_gone(t: Interfaces, index: u32, address: &[u8]) -> Interfaces
+pub(crate) fn address_gone(t: Interfaces, index: u32, address: &[u8]) -> Interfaces
     ensures { λ r. ⌜ linksOf r ≡ addressGone index (now (address .entry)) (linksOf t) ⌝ }
 {
     let held = held_at(t, index);

@@ -20,7 +20,7 @@ ghost use Rattle.engine.specs.Replies.{waits, waiting, sooner, soonest, 
 ghost use Rattle.engine.specs.Passes.{One, All, askedBy, withNeed, withAnswer};
 
 // Whether a reply waits: 1, or 0.
-pub fn wait_of(needed: ResponseNeeded) -> usize
+pub(crate) fn wait_of(needed: ResponseNeeded) -> usize
     ensures { λ r. ⌜ (r ≡ waits needed) × (r ≤ 1) ⌝ }
 {
     match needed {
@@ -31,7 +31,7 @@ pub fn wait_of(needed: ResponseNeeded) -> usize
 }
 
 // How many replies wait.
-pub fn waiting_in(t: Advertisements) -> usize
+pub(crate) fn waiting_in(t: Advertisements) -> usize
     ensures { λ r. ⌜ (r ≡ waiting (advertisementsOf t)) × (r ≤ 8) ⌝ }
 {
     let n = least(t.count, 8);
@@ -65,7 +65,7 @@ fn sooner_of(time: u64, needed: ResponseNeeded) -> u64
 }
 
 // The earliest of an instant and those of all replies that wait.
-pub fn soonest_in(t: Advertisements, time: u64) -> u64
+pub(crate) fn soonest_in(t: Advertisements, time: u64) -> u64
     ensures { λ r. ⌜ r ≡ soonest time (advertisementsOf t) ⌝ }
 {
     let n = least(t.count, 8);
@@ -244,7 +244,7 @@ pub(crate) fn ask_all(
 }
 
 // Whether a reply waits that is due.
-pub fn is_due(needed: ResponseNeeded, time: u64) -> bool
+pub(crate) fn is_due(needed: ResponseNeeded, time: u64) -> bool
     ensures { λ r. ⌜ r ≡ isDue time needed ⌝ }
 {
     match needed {
@@ -311,7 +311,7 @@ pub struct ServedTable {
     pub group: usize,
 }
 
-pub fn serve_all(t: Advertisements, time: u64) -> ServedTable
+pub(crate) fn serve_all(t: Advertisements, time: u64) -> ServedTable
     ensures { λ r. ⌜ All (served time) (aloneAt time) (groupAt time) (advertisementsOf t) (r .table) (r .alone) (r .group) ⌝ }
 {
     let n = least(t.count, 8);

@@ -67,14 +67,14 @@ fn none() -> Sources
 }
 
 // The addresses of a link, as stored.
-pub fn of_link(link: Interface) -> Sources
+pub(crate) fn of_link(link: Interface) -> Sources
     ensures { λ r. ⌜ SourcesOf (take (link .count) (link .addresses)) r ⌝ }
 {
     with_link(none(), link)
 }
 
 // The addresses on up links, by index and as stored.
-pub fn of_up_links(t: Interfaces) -> Sources
+pub(crate) fn of_up_links(t: Interfaces) -> Sources
     ensures { λ r. ⌜ SourcesOf (upAddresses (linksOf t)) r ⌝ }
 {
     let n = least(t.count, 3);

@@ -5,6 +5,7 @@ pub mod call;
 mod cotton;
 mod document;
 mod front;
+pub mod messages;
 pub mod text;
 
 pub use document::{MAX_TIME, OUTBOX};

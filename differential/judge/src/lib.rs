@@ -8,6 +8,7 @@ mod front;
 pub mod messages;
 pub mod text;
 
+pub use cotton::Milliseconds;
 pub use document::{MAX_TIME, OUTBOX};
 pub use front::{Front, Program};
 

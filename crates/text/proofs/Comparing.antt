@@ -1,0 +1,114 @@
+-- Laws of comparing: two texts agree, or are in order, as far as their bytes from place i on are.
+use mathlib.Core.Path.{_≡_, refl, sym, _∙_, ap}
+use mathlib.Core.Bool.{Bool, true, false, _&&_, and-false, and-eq-true-iff, false≢true}
+use mathlib.Core.List.{List, [], _∷_}
+use Prim.Native.Nat.{ℕ, suc, _+_, _-_, _≤_, _<_}
+use native.Mathlib.Omega.{arith}
+use native.Mathlib.Numerals.{add-one}
+use borrow.Author.Tests.{eqb-true, le-leb, lt-leb, eq-eqb, ne-eqb, lt-ltb, le-ltb}
+use lib.Dec.{eqb, ltb}
+use lib.ListN.{length, drop, getD, drop-of-length-le}
+use lib.Seq.{drop-cons}
+use Rattle.text.specs.Bytes.{agree, same, upper, equal, order, startsWith}
+use Rattle.text.specs.declared.bytes.Ordering.{Ordering}
+use Rattle.text.specs.declared.bytes.Ordering.the-variants.{Less, Equal, Greater}
+
+-- ASCII capitals
+pub upper-below : (a : ℕ) → a < 97 → upper a ≡ a
+unfolding upper
+upper-below a h = rw (lt-leb 97 a h)
+
+pub upper-above : (a : ℕ) → 122 < a → upper a ≡ a
+unfolding upper
+upper-above a h = let g : 97 ≤ a = omega arith in rw (le-leb 97 a g, lt-leb a 122 h)
+
+pub upper-letter : (a : ℕ) → 97 ≤ a → a ≤ 122 → upper a ≡ a - 32
+unfolding upper
+upper-letter a h g = rw (le-leb 97 a h, le-leb a 122 g)
+
+-- `agree`
+module _ (f : ℕ → ℕ) (s t : List ℕ) (i : ℕ) where
+  pub agree-next : i < length s → i < length t → f (getD s i 0) ≡ getD t i 0 → agree f (drop i s) (drop i t) ≡ agree f (drop (i + 1) s) (drop (i + 1) t)
+  unfolding agree
+  agree-next h g e = rw (add-one, drop-cons s i 0, drop-cons t i 0, eq-eqb (f (getD s i 0)) (getD t i 0) e)
+
+  pub agree-not : i < length s → i < length t → (f (getD s i 0) ≡ getD t i 0 → ⊥) → agree f (drop i s) (drop i t) ≡ false
+  unfolding agree
+  agree-not h g e = rw (drop-cons s i 0, drop-cons t i 0, ne-eqb (f (getD s i 0)) (getD t i 0) e)
+
+  pub agree-end : length s ≤ i → length t ≤ i → agree f (drop i s) (drop i t) ≡ true
+  unfolding agree
+  agree-end h g = rw (drop-of-length-le s h, drop-of-length-le t g)
+
+pub agree-lengths : (f : ℕ → ℕ) (s t : List ℕ) → (length s ≡ length t → ⊥) → agree f s t ≡ false
+unfolding agree
+agree-lengths f [] [] h = absurd (h refl)
+agree-lengths f [] (b ∷ t) h = refl
+agree-lengths f (a ∷ s) [] h = refl
+agree-lengths f (a ∷ s) (b ∷ t) h = ap (_&&_ (eqb (f a) b)) (agree-lengths f s t (λ e. h (ap suc e))) ∙ and-false (eqb (f a) b)
+
+-- texts that are equal are the same, and the other way round
+pub equal-is : (s t : List ℕ) → equal s t ≡ true → s ≡ t
+unfolding agree
+equal-is [] [] e = refl
+equal-is [] (b ∷ t) e = absurd (false≢true e)
+equal-is (a ∷ s) [] e = absurd (false≢true e)
+equal-is (a ∷ s) (b ∷ t) e =
+    let p = and-eq-true-iff (eqb a b) (equal s t) .0 e in
+    ap (λ (x : ℕ). x ∷ s) (eqb-true a b (p .0)) ∙ ap (_∷_ b) (equal-is s t (p .1))
+
+pub equal-refl : (s : List ℕ) → equal s s ≡ true
+unfolding agree
+equal-refl [] = refl
+equal-refl (a ∷ s) = rw (eq-eqb a a refl) (equal-refl s)
+
+-- `order`
+module _ (s t : List ℕ) (i : ℕ) where
+  pub order-less : i < length s → i < length t → getD s i 0 < getD t i 0 → order (drop i s) (drop i t) ≡ Less
+  unfolding order
+  order-less h g e = rw (drop-cons s i 0 h, drop-cons t i 0 g, lt-ltb _ _ e)
+
+  pub order-greater : i < length s → i < length t → getD t i 0 < getD s i 0 → order (drop i s) (drop i t) ≡ Greater
+  unfolding order
+  order-greater h g e =
+      let u : ltb (getD s i 0) (getD t i 0) ≡ false = le-ltb (getD s i 0) (getD t i 0) (omega arith) in
+      rw (drop-cons s i 0 h, drop-cons t i 0 g, u, lt-ltb _ _ e)
+
+  pub order-next : i < length s → i < length t → getD t i 0 ≤ getD s i 0 → getD s i 0 ≤ getD t i 0 → order (drop i s) (drop i t) ≡ order (drop (i + 1) s) (drop (i + 1) t)
+  unfolding order
+  order-next h g e k = rw (add-one, drop-cons s i 0 h, drop-cons t i 0 g, le-ltb _ _ e, le-ltb _ _ k)
+
+  pub order-longer : i < length s → length t ≤ i → order (drop i s) (drop i t) ≡ Greater
+  unfolding order
+  order-longer h g = rw (drop-cons s i 0 h, drop-of-length-le t g)
+
+  pub order-shorter : length s ≤ i → i < length t → order (drop i s) (drop i t) ≡ Less
+  unfolding order
+  order-shorter h g = rw (drop-cons t i 0 g, drop-of-length-le s h)
+
+  pub order-end : length s ≤ i → length t ≤ i → order (drop i s) (drop i t) ≡ Equal
+  unfolding order
+  order-end h g = rw (drop-of-length-le s h, drop-of-length-le t g)
+
+pub order-refl : (s : List ℕ) → order s s ≡ Equal
+unfolding order
+order-refl [] = refl
+order-refl (a ∷ s) = rw (le-ltb a a (omega arith)) (order-refl s)
+
+-- `startsWith`
+module _ (p s : List ℕ) (i : ℕ) where
+  pub starts-next : i < length p → i < length s → getD s i 0 ≡ getD p i 0 → startsWith (drop i p) (drop i s) ≡ startsWith (drop (i + 1) p) (drop (i + 1) s)
+  unfolding startsWith
+  starts-next h g e = rw (add-one, drop-cons p i 0, drop-cons s i 0, eq-eqb (getD s i 0) (getD p i 0) e)
+
+  pub starts-not : i < length p → i < length s → (getD s i 0 ≡ getD p i 0 → ⊥) → startsWith (drop i p) (drop i s) ≡ false
+  unfolding startsWith
+  starts-not h g e = rw (drop-cons p i 0, drop-cons s i 0, ne-eqb (getD s i 0) (getD p i 0) e)
+
+  pub starts-short : i < length p → length s ≤ i → startsWith (drop i p) (drop i s) ≡ false
+  unfolding startsWith
+  starts-short h g = rw (drop-cons p i 0, drop-of-length-le s g)
+
+  pub starts-end : length p ≤ i → startsWith (drop i p) (drop i s) ≡ true
+  unfolding startsWith
+  starts-end h = rw (drop-of-length-le p h)

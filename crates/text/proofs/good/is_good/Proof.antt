@@ -1,0 +1,35 @@
+-- `good::is_good`: each call's answer in its place.
+use borrow.Author.Needs.{needs}
+use Rattle.text.specs.Good.{goodText}
+use Rattle.text.proofs.good.is_good.Statement.{statement}
+use Rattle.text.proofs.good.is_good.Tie as tie
+
+is-utf8-requires : tie.Need-is-utf8-requires
+is-utf8-requires c κs = search needs
+
+find-requires : tie.Need-find-requires
+find-requires c κs = search needs
+
+find-requires-2 : tie.Need-find-requires-2
+find-requires-2 c κs = search needs
+
+leading-of-requires : tie.Need-leading-of-requires
+leading-of-requires c κs = search needs
+
+trailing-of-requires : tie.Need-trailing-of-requires
+trailing-of-requires c κs = search needs
+
+returns : tie.Need-returns
+unfolding goodText
+returns c = cc
+
+pub is-good-spec : {M : Type 1} → statement M
+is-good-spec =
+    tie.close
+    (tie.spec
+    is-utf8-requires
+    find-requires
+    find-requires-2
+    leading-of-requires
+    trailing-of-requires
+    returns)

@@ -1,0 +1,139 @@
+// Comparing texts and finding in them: keys ('Messages'), names ('Outbox'), the last colon and the first `://`
+// ('target_match' and 'rewrite_host'). A place that is not found is the text's length.
+ghost use mathlib.Core.Path.{_≡_};
+ghost use Rattle.text.specs.Bytes.{upper, equal, equalUpper, order, indexOf, lastIndexOf, startsWith, indexOfText};
+
+pub enum Ordering {
+    Less,
+    Equal,
+    Greater,
+}
+
+// A byte as an ASCII capital, if it is an ASCII letter.
+pub fn upper_of(a: u8) -> u8
+    ensures { λ r. ⌜ r ≡ upper a ⌝ }
+{
+    if a < 97 {
+        return a;
+    }
+    if 122 < a {
+        return a;
+    }
+    a - 32
+}
+
+// Whether two texts are the same.
+pub fn equal(s: &[u8], t: &[u8]) -> bool
+    ensures { λ r. ⌜ r ≡ equal (now (s .entry)) (now (t .entry)) ⌝ }
+{
+    if s.len() != t.len() {
+        return false;
+    }
+    let mut i = 0;
+    while i < s.len() {
+        if s[i] != t[i] {
+            return false;
+        }
+        i += 1;
+    }
+    true
+}
+
+// Whether `s`, its ASCII letters in upper case, is `t`.
+pub fn equal_upper(s: &[u8], t: &[u8]) -> bool
+    ensures { λ r. ⌜ r ≡ equalUpper (now (s .entry)) (now (t .entry)) ⌝ }
+{
+    if s.len() != t.len() {
+        return false;
+    }
+    let mut i = 0;
+    while i < s.len() {
+        if upper_of(s[i]) != t[i] {
+            return false;
+        }
+        i += 1;
+    }
+    true
+}
+
+// The byte order of two texts.
+pub fn order(s: &[u8], t: &[u8]) -> Ordering
+    ensures { λ r. ⌜ r ≡ order (now (s .entry)) (now (t .entry)) ⌝ }
+{
+    let mut i = 0;
+    while i < s.len() {
+        if t.len() <= i {
+            return Ordering::Greater;
+        }
+        if s[i] < t[i] {
+            return Ordering::Less;
+        }
+        if t[i] < s[i] {
+            return Ordering::Greater;
+        }
+        i += 1;
+    }
+    if i < t.len() {
+        return Ordering::Less;
+    }
+    Ordering::Equal
+}
+
+// The first place of `b`.
+pub fn find(s: &[u8], b: u8) -> usize
+    ensures { λ r. ⌜ r ≡ indexOf b (now (s .entry)) ⌝ }
+{
+    let mut i = 0;
+    while i < s.len() {
+        if s[i] == b {
+            return i;
+        }
+        i += 1;
+    }
+    i
+}
+
+// The last place of `b`, looked for from the end.
+pub fn find_last(s: &[u8], b: u8) -> usize
+    ensures { λ r. ⌜ r ≡ lastIndexOf b (now (s .entry)) ⌝ }
+{
+    let mut i = s.len();
+    while 0 < i {
+        i -= 1;
+        if s[i] == b {
+            return i;
+        }
+    }
+    s.len()
+}
+
+// Whether `s` starts with `p`.
+pub fn starts_with(s: &[u8], p: &[u8]) -> bool
+    ensures { λ r. ⌜ r ≡ startsWith (now (p .entry)) (now (s .entry)) ⌝ }
+{
+    let mut i = 0;
+    while i < p.len() {
+        if s.len() <= i {
+            return false;
+        }
+        if s[i] != p[i] {
+            return false;
+        }
+        i += 1;
+    }
+    true
+}
+
+// The first place where `p` starts.
+pub fn find_text(s: &[u8], p: &[u8]) -> usize
+    ensures { λ r. ⌜ r ≡ indexOfText (now (p .entry)) (now (s .entry)) ⌝ }
+{
+    let mut i = 0;
+    while i < s.len() {
+        if starts_with(&s[i..], p) {
+            return i;
+        }
+        i += 1;
+    }
+    i
+}

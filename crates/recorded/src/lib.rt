@@ -67,16 +67,68 @@ pub fn bytes(s: &[u8], out: &mut [u8]) -> usize
     n
 }
 
-// How long the first line is: up to its byte 10, or to the end of the text.
-pub fn line_len(s: &[u8]) -> usize
-    ensures { λ r. ⌜ Counts r (now (s .entry)) ⌝ }
-{
-    let mut i = 0;
-    while i < s.len() {
-        if s[i] == 10 {
-            return i;
-        }
-        i += 1;
+// One byte of standard input, or that its line ends, by a byte 10 or with the input.
+enum Next {
+    Byte(u8),
+    End,
+}
+
+fn read_byte() -> Next {
+    let mut b = [0u8; 1];
+    let n = io::read_full(0, &mut b);
+    if n == 0 {
+        return Next::End;
     }
-    i
+    if b[0] == 10 {
+        return Next::End;
+    }
+    Next::Byte(b[0])
+}
+
+// Puts the next line of standard input at the start of `line`, as much as it takes, and answers how long it is: 0 where
+// the input ends, since no recorded line is empty.
+pub fn read_line(line: &mut [u8]) -> usize
+    ensures { λ r. ⌜ Counts r (now (line .exit)) ⌝ }
+{
+    let mut n = 0;
+    while n < line.len() {
+        let got = read_byte();
+        let Next::Byte(b) = got else {
+            return n;
+        };
+        line[n] = b;
+        n += 1;
+    }
+    n
+}
+
+// How many cases were replayed and how many differ.
+pub struct Tally {
+    pub cases: u64,
+    pub differences: u64,
+}
+
+impl Tally {
+    pub fn none() -> Tally {
+        Tally {
+            cases: 0,
+            differences: 0,
+        }
+    }
+
+    // One case more.
+    pub fn with(self, same: bool) -> Tally {
+        let more: u64 = if same { 0 } else { 1 };
+        Tally {
+            cases: std::num::wrapping_add_u64(self.cases, 1),
+            differences: std::num::wrapping_add_u64(self.differences, more),
+        }
+    }
+
+    pub fn print(self) {
+        io::print_decimal(1, self.cases);
+        io::write_all(1, b" cases, ");
+        io::print_decimal(1, self.differences);
+        io::write_all(1, b" differences\n");
+    }
 }

@@ -1,22 +1,9 @@
 // Replays recorded answers of Rust's own text functions against crate `text` (document 01, 'Text rules') and prints how
 // many cases there were and how many differ. differential/record/src/text.rs made the list and says what each column is:
 // a letter, the input's length, two answers, the input.
+use recorded::Tally;
 use text::bytes::Ordering;
 use text::number::Number;
-ghost use mathlib.Core.Path.{_≡_};
-ghost use lib.ListN.{length};
-
-struct Tally {
-    cases: u64,
-    differences: u64,
-}
-
-// Room for the whole list.
-fn room() -> [u8; 1048576]
-    ensures { λ r. ⌜ 1048576 ≡ length r ⌝ }
-{
-    [0; 1048576]
-}
 
 fn flag(b: bool) -> u64 {
     if b { 1 } else { 0 }
@@ -71,7 +58,7 @@ fn split(letter: u8, a: u64, b: usize, s: &[u8]) -> bool {
     if s.len() < b {
         return false;
     }
-    of_two(letter, a, &s[..b], &s[b..])
+    of_two(letter, a, &s[0..b], &s[b..])
 }
 
 // Whether crate `text` answers as recorded.
@@ -100,41 +87,30 @@ fn agrees(line: &[u8]) -> bool {
         return false;
     }
     let b = recorded::number(&line[24..28]);
-    answers(line[0], recorded::number(&line[7..23]), b as usize, &input[..n])
+    answers(
+        line[0],
+        recorded::number(&line[7..23]),
+        b as usize,
+        &input[..n],
+    )
 }
 
-// Line by line to the end of the list.
-fn replay(s: &[u8]) -> Tally {
-    let mut at = 0;
-    let mut cases: u64 = 0;
-    let mut differences: u64 = 0;
-    while at < s.len() {
-        let rest = &s[at..];
-        let n = recorded::line_len(rest);
-        if !agrees(&rest[..n]) {
-            differences += 1;
+// Line by line to the end of the list, which is far shorter than a million.
+fn replay() -> Tally {
+    let mut tally = Tally::none();
+    let mut turns: u64 = 1000000;
+    while 0 < turns {
+        let mut line = io::buffer();
+        let n = recorded::read_line(&mut line);
+        if n == 0 {
+            return tally;
         }
-        cases += 1;
-        if rest.len() <= n {
-            return Tally {
-                cases: cases,
-                differences: differences,
-            };
-        }
-        at += n + 1;
+        tally = tally.with(agrees(&line[..n]));
+        turns -= 1;
     }
-    Tally {
-        cases: cases,
-        differences: differences,
-    }
+    tally
 }
 
 fn main() {
-    let mut list = room();
-    let n = io::read_full(0, &mut list);
-    let tally = replay(&list[..n]);
-    io::print_decimal(1, tally.cases);
-    io::write_all(1, b" cases, ");
-    io::print_decimal(1, tally.differences);
-    io::write_all(1, b" differences\n");
+    replay().print();
 }

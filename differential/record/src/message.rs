@@ -9,6 +9,8 @@
 //!   own; a place is where that text stands.
 //! - `s` `r` `n` `b`, build_search, response, notify, byebye: count of the bytes; refusal; length of the message; lengths
 //!   of the three texts; length of the buffer; 0; 0; then the texts and the message. The message is message.rs's own.
+mod list;
+
 use cases::builds::{builds, Build};
 use cases::datagrams;
 use cases::dice::Dice;
@@ -19,8 +21,7 @@ fn main() {
     let mut dice = Dice::new(2024, 7);
     let mut lines: Vec<String> = sample(&mut dice).iter().map(|datagram| parse_line(datagram)).collect();
     lines.extend(builds(&mut dice, 300).iter().map(build_line));
-    std::fs::write(format!("{folder}/stdin"), lines.concat()).unwrap();
-    std::fs::write(format!("{folder}/stdout"), format!("{} cases, 0 differences\n", lines.len())).unwrap();
+    list::write(&folder, &lines);
 }
 
 /// The well-formed ones cut at every byte of the shortest, and one in so many of each further kind.

@@ -16,16 +16,16 @@
 //! | e | the first in `to_ascii_uppercase` is the second | 1 if so | length of the first |
 //! | f r | `position`, `rposition` of the last byte in the others | the place, or how many there are | how many |
 //! | x | `find` of the second text in the first | the place, or the first's length | length of the first |
+mod list;
+
 use cases::dice::Dice;
 use cases::texts;
 use std::cmp::Ordering;
 
 fn main() {
     let folder = std::env::args().nth(1).expect("record-text FOLDER");
-    let cases = all();
-    let lines: String = cases.iter().map(line).collect();
-    std::fs::write(format!("{folder}/stdin"), lines).unwrap();
-    std::fs::write(format!("{folder}/stdout"), format!("{} cases, 0 differences\n", cases.len())).unwrap();
+    let lines: Vec<String> = all().iter().map(line).collect();
+    list::write(&folder, &lines);
 }
 
 struct Case {

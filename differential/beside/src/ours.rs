@@ -1,5 +1,4 @@
 //! Our functions, through the static library of crates/message_c: a slice is a pointer and a length.
-#![allow(dead_code)]
 use judge::messages::{Kind, Parsed, Place};
 
 #[repr(C)]
@@ -22,8 +21,6 @@ extern "C" {
     fn message_c_response(b: *mut u8, n: usize, st: *const u8, k: usize, usn: *const u8, l: usize, at: *const u8, m: usize) -> Written;
     fn message_c_notify(b: *mut u8, n: usize, nt: *const u8, k: usize, usn: *const u8, l: usize, at: *const u8, m: usize) -> Written;
     fn message_c_byebye(b: *mut u8, n: usize, nt: *const u8, k: usize, usn: *const u8, l: usize) -> Written;
-    fn message_c_is_utf8(s: *const u8, n: usize) -> bool;
-    fn message_c_lines(s: *const u8, n: usize) -> usize;
 }
 
 pub fn parse(s: &[u8]) -> Parsed {
@@ -47,13 +44,4 @@ pub fn build<T: AsRef<[u8]>>(kind: Kind, buffer: &mut [u8], texts: &[T]) -> (u32
         }
     };
     (written.refusal, written.len)
-}
-
-pub fn is_utf8(s: &[u8]) -> bool {
-    unsafe { message_c_is_utf8(s.as_ptr(), s.len()) }
-}
-
-/// How many lines `text::lines` finds.
-pub fn lines(s: &[u8]) -> usize {
-    unsafe { message_c_lines(s.as_ptr(), s.len()) }
 }

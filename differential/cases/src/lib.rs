@@ -2,5 +2,6 @@
 pub mod builds;
 pub mod datagrams;
 pub mod dice;
+pub mod directed;
 pub mod lists;
 pub mod texts;

@@ -2,6 +2,7 @@
 //! the judge at its side: instants are chosen around the one that it wants to be woken at.
 use crate::datagrams;
 use crate::dice::Dice;
+use crate::directed;
 use judge::{Front, Program, MAX_TIME};
 
 /// One list under way.
@@ -10,6 +11,7 @@ pub struct List {
     program: Program,
     dice: Dice,
     clock: u64,
+    directed: Option<String>,
 }
 
 const KINDS: [&str; 16] = [
@@ -31,7 +33,7 @@ const FLAGS: [u32; 12] =
 const SEEDS: [u32; 8] = [0, 1, 990, 4999, 5000, 0x0102_0304, 0xFF00_FF00, u32::MAX];
 
 impl List {
-    /// List number `number` of this seed.
+    /// List number `number` of this seed; the first ones are written by hand.
     pub fn new(program: Program, seed: u64, number: u64) -> Self {
         let mut dice = Dice::new(seed, number);
         let clock = match dice.below(6) {
@@ -40,12 +42,20 @@ impl List {
             2 => dice.next() >> 1,
             _ => dice.next() % 20_000,
         };
-        Self { front: Front::new(program), program, dice, clock }
+        let directed = directed::all().into_iter().nth(number as usize);
+        Self { front: Front::new(program), program, dice, clock, directed }
     }
 
     /// All lines of the list, each with its answer.
     pub fn lines(&mut self) -> Vec<(Vec<u8>, String)> {
         let mut lines = vec![];
+        if let Some(text) = self.directed.take() {
+            for line in text.split_inclusive('\n') {
+                let answer = self.front.line(line.strip_suffix('\n').unwrap_or(line).as_bytes());
+                lines.push((line.into(), answer));
+            }
+            return lines;
+        }
         for line in self.opening() {
             self.push(line, &mut lines);
         }

@@ -36,6 +36,7 @@ fn main() {
             }
         }
     }
+    let word = if path == "-" { format!("{word} lists, the Rust and document 01's text alone") } else { word.clone() };
     println!("{word}: reached {:?}, at most {} records a call", seen.refusals, seen.records);
     println!("{word}: {} lists, {} calls, {} differences", seen.lists, seen.calls, seen.differences);
     exit((seen.differences > 0).into());

@@ -37,7 +37,7 @@ fn largest() -> String {
     for from in ["10.0.0.8\t1", "10.0.0.9\t1"] {
         lines += &search(0, from, "10.0.1.1", "ssdp:all", "1");
     }
-    lines += "timeout\t9\ntimeout\t10\ntimeout\t10\n";
+    lines += "timeout\t10\ntimeout\t10\n";
     lines += &search(20, "10.0.0.8\t1", "255.255.255.255", "t:0", "255");
     lines += "advertise\tu8\tt\t/\nsubscribe\tt\nadvertise\tu7\tt\t/\ndeadvertise\tu6\nadvertise\tu8\tt\t/\ntimeout\t6030\nrefresh\n";
     lines

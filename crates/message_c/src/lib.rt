@@ -24,7 +24,7 @@ pub struct Written {
     pub len: usize,
 }
 
-fn parsed(kind: u32, mx: u8, a: Place, b: Place, c: Place) -> Parsed {
+fn flat(kind: u32, mx: u8, a: Place, b: Place, c: Place) -> Parsed {
     Parsed {
         kind: kind,
         mx: mx as u32,
@@ -37,7 +37,7 @@ fn parsed(kind: u32, mx: u8, a: Place, b: Place, c: Place) -> Parsed {
     }
 }
 
-fn written(b: Built) -> Written {
+fn numbers(b: Built) -> Written {
     Written {
         refusal: b.refusal,
         len: b.len,
@@ -49,45 +49,45 @@ pub extern "C" fn message_c_parse(datagram: &[u8]) -> Parsed {
     let none = Place { start: 0, len: 0 };
     let m = message::parse(datagram);
     match m {
-        Message::Empty => parsed(7, 0, none, none, none),
-        Message::Invalid => parsed(8, 0, none, none, none),
+        Message::Empty => flat(7, 0, none, none, none),
+        Message::Invalid => flat(8, 0, none, none, none),
         Message::NotifyAlive {
             notification_type,
             unique_service_name,
             location,
-        } => parsed(1, 0, notification_type, unique_service_name, location),
+        } => flat(1, 0, notification_type, unique_service_name, location),
         Message::NotifyByeBye {
             notification_type,
             unique_service_name,
-        } => parsed(2, 0, notification_type, unique_service_name, none),
+        } => flat(2, 0, notification_type, unique_service_name, none),
         Message::Search {
             search_target,
             maximum_wait_sec,
-        } => parsed(3, maximum_wait_sec, search_target, none, none),
+        } => flat(3, maximum_wait_sec, search_target, none, none),
         Message::Response {
             search_target,
             unique_service_name,
             location,
-        } => parsed(4, 0, search_target, unique_service_name, location),
+        } => flat(4, 0, search_target, unique_service_name, location),
     }
 }
 
 #[no_mangle]
 pub extern "C" fn message_c_search(buf: &mut [u8], search_type: &[u8]) -> Written {
-    written(message::build_search(buf, search_type))
+    numbers(message::build_search(buf, search_type))
 }
 
 #[no_mangle]
 pub extern "C" fn message_c_response(buf: &mut [u8], search_target: &[u8], unique_service_name: &[u8], location: &[u8]) -> Written {
-    written(message::build_response(buf, search_target, unique_service_name, location))
+    numbers(message::build_response(buf, search_target, unique_service_name, location))
 }
 
 #[no_mangle]
 pub extern "C" fn message_c_notify(buf: &mut [u8], notification_type: &[u8], unique_service_name: &[u8], location: &[u8]) -> Written {
-    written(message::build_notify(buf, notification_type, unique_service_name, location))
+    numbers(message::build_notify(buf, notification_type, unique_service_name, location))
 }
 
 #[no_mangle]
 pub extern "C" fn message_c_byebye(buf: &mut [u8], notification_type: &[u8], unique_service_name: &[u8]) -> Written {
-    written(message::build_byebye(buf, notification_type, unique_service_name))
+    numbers(message::build_byebye(buf, notification_type, unique_service_name))
 }

@@ -130,7 +130,7 @@ fn is_built(line: &[u8], s: &[u8]) -> bool {
     if buf.len() < room {
         return false;
     }
-    is_built_in(line, s, &mut buf[..room])
+    is_built_in(line, s, &mut buf[0..room])
 }
 
 // One line of the list. A line that is not whole differs.

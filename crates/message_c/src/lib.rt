@@ -1,6 +1,9 @@
 // Crate `message` for a host, as functions over byte slices that a static library exports (document 01, 'Messages'): an
 // answer is numbers. The comparisons and benchmarks of differential/ link it.
-use message::Built;
+ghost use mathlib.Core.Path.{_≡_};
+ghost use Rattle.message.specs.Build.{Builds, searchTexts, byebyeTexts, locatedTexts, searchText, responseText, notifyText, byebyeText};
+ghost use Rattle.message.specs.Parse.{parsed};
+ghost use Rattle.message_c.specs.Numbers.{flatOf, numbersOf, builtOf};
 use message::Message;
 use text::white::Place;
 
@@ -24,7 +27,9 @@ pub struct Written {
     pub len: usize,
 }
 
-fn flat(kind: u32, mx: u8, a: Place, b: Place, c: Place) -> Parsed {
+fn flat(kind: u32, mx: u8, a: Place, b: Place, c: Place) -> Parsed
+    ensures { λ r. ⌜ r ≡ flatOf kind mx a b c ⌝ }
+{
     Parsed {
         kind: kind,
         mx: mx as u32,
@@ -37,17 +42,10 @@ fn flat(kind: u32, mx: u8, a: Place, b: Place, c: Place) -> Parsed {
     }
 }
 
-fn numbers(b: Built) -> Written {
-    Written {
-        refusal: b.refusal,
-        len: b.len,
-    }
-}
-
-#[no_mangle]
-pub extern "C" fn message_c_parse(datagram: &[u8]) -> Parsed {
+fn numbers_of(m: Message) -> Parsed
+    ensures { λ r. ⌜ r ≡ numbersOf m ⌝ }
+{
     let none = Place { start: 0, len: 0 };
-    let m = message::parse(datagram);
     match m {
         Message::Empty => flat(7, 0, none, none, none),
         Message::Invalid => flat(8, 0, none, none, none),
@@ -73,21 +71,71 @@ pub extern "C" fn message_c_parse(datagram: &[u8]) -> Parsed {
 }
 
 #[no_mangle]
-pub extern "C" fn message_c_search(buf: &mut [u8], search_type: &[u8]) -> Written {
-    numbers(message::build_search(buf, search_type))
+pub extern "C" fn message_c_parse(datagram: &[u8]) -> Parsed
+    ensures { λ r. ⌜ r ≡ numbersOf (parsed (now (datagram .entry))) ⌝ }
+{
+    numbers_of(message::parse(datagram))
 }
 
 #[no_mangle]
-pub extern "C" fn message_c_response(buf: &mut [u8], search_target: &[u8], unique_service_name: &[u8], location: &[u8]) -> Written {
-    numbers(message::build_response(buf, search_target, unique_service_name, location))
+pub extern "C" fn message_c_search(buf: &mut [u8], st: &[u8]) -> Written
+    ensures { λ r. ⌜ Builds (searchTexts (now (st .entry))) (searchText (now (st .entry))) (now (buf .entry)) (now (buf .exit)) (builtOf r) ⌝ }
+{
+    let b = message::build_search(buf, st);
+    Written {
+        refusal: b.refusal,
+        len: b.len,
+    }
 }
 
 #[no_mangle]
-pub extern "C" fn message_c_notify(buf: &mut [u8], notification_type: &[u8], unique_service_name: &[u8], location: &[u8]) -> Written {
-    numbers(message::build_notify(buf, notification_type, unique_service_name, location))
+pub extern "C" fn message_c_response(
+    buf: &mut [u8],
+    st: &[u8],
+    usn: &[u8],
+    location: &[u8],
+) -> Written
+    ensures { λ r.
+        ⌜ Builds (locatedTexts (now (st .entry)) (now (usn .entry)) (now (location .entry)))
+        (responseText (now (st .entry)) (now (usn .entry)) (now (location .entry)))
+        (now (buf .entry)) (now (buf .exit)) (builtOf r) ⌝ }
+{
+    let b = message::build_response(buf, st, usn, location);
+    Written {
+        refusal: b.refusal,
+        len: b.len,
+    }
 }
 
 #[no_mangle]
-pub extern "C" fn message_c_byebye(buf: &mut [u8], notification_type: &[u8], unique_service_name: &[u8]) -> Written {
-    numbers(message::build_byebye(buf, notification_type, unique_service_name))
+pub extern "C" fn message_c_notify(
+    buf: &mut [u8],
+    nt: &[u8],
+    usn: &[u8],
+    location: &[u8],
+) -> Written
+    ensures { λ r.
+        ⌜ Builds (locatedTexts (now (nt .entry)) (now (usn .entry)) (now (location .entry)))
+        (notifyText (now (nt .entry)) (now (usn .entry)) (now (location .entry)))
+        (now (buf .entry)) (now (buf .exit)) (builtOf r) ⌝ }
+{
+    let b = message::build_notify(buf, nt, usn, location);
+    Written {
+        refusal: b.refusal,
+        len: b.len,
+    }
+}
+
+#[no_mangle]
+pub extern "C" fn message_c_byebye(buf: &mut [u8], nt: &[u8], usn: &[u8]) -> Written
+    ensures { λ r.
+        ⌜ Builds (byebyeTexts (now (nt .entry)) (now (usn .entry)))
+        (byebyeText (now (nt .entry)) (now (usn .entry)))
+        (now (buf .entry)) (now (buf .exit)) (builtOf r) ⌝ }
+{
+    let b = message::build_byebye(buf, nt, usn);
+    Written {
+        refusal: b.refusal,
+        len: b.len,
+    }
 }

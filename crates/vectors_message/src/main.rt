@@ -55,11 +55,15 @@ fn is_parsed(line: &[u8], s: &[u8]) -> bool {
         Message::NotifyByeBye {
             notification_type,
             unique_service_name,
-        } => is_kind(line, 2) & is_place(line, 2, notification_type) & is_place(line, 4, unique_service_name),
+        } => is_kind(line, 2)
+            & is_place(line, 2, notification_type)
+            & is_place(line, 4, unique_service_name),
         Message::Search {
             search_target,
             maximum_wait_sec,
-        } => is_kind(line, 3) & is_place(line, 2, search_target) & (column(line, 8) == maximum_wait_sec as usize),
+        } => is_kind(line, 3)
+            & is_place(line, 2, search_target)
+            & (column(line, 8) == maximum_wait_sec as usize),
         Message::Response {
             search_target,
             unique_service_name,
@@ -121,7 +125,9 @@ fn is_built_in(line: &[u8], s: &[u8], buf: &mut [u8]) -> bool {
     }
     fill(buf);
     let built = built_by(line[0], buf, &s[0..a], &s[a..b], &s[b..c]);
-    (built.refusal as usize == column(line, 1)) & (built.len == column(line, 2)) & holds(buf, &s[c..])
+    (built.refusal as usize == column(line, 1))
+        & (built.len == column(line, 2))
+        & holds(buf, &s[c..])
 }
 
 fn is_built(line: &[u8], s: &[u8]) -> bool {

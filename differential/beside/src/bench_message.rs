@@ -26,12 +26,15 @@ fn main() {
         let (mut a, mut b) = ([0; 512], [0; 512]);
         let (_, length) = ours::build(kind, &mut a, &texts);
         assert_eq!(a[..length], kind.text(&texts));
-        let rust = || match kind {
-            Kind::Search => message::build_search(black_box(&mut b), black_box(TYPE)),
-            Kind::Response => message::build_response(black_box(&mut b), black_box(TYPE), NAME, LOCATION),
-            Kind::Notify => message::build_notify(black_box(&mut b), black_box(TYPE), NAME, LOCATION),
-            Kind::ByeBye => message::build_byebye(black_box(&mut b), black_box(TYPE), NAME),
+        let rust = || {
+            let [kind_text, name, location] = black_box(texts);
+            match black_box(kind) {
+                Kind::Search => message::build_search(black_box(&mut b), kind_text),
+                Kind::Response => message::build_response(black_box(&mut b), kind_text, name, location),
+                Kind::Notify => message::build_notify(black_box(&mut b), kind_text, name, location),
+                Kind::ByeBye => message::build_byebye(black_box(&mut b), kind_text, name),
+            }
         };
-        row(&format!("build of {kind:?}"), length, || ours::build(kind, black_box(&mut a), black_box(&texts)), rust);
+        row(&format!("build of {kind:?}"), length, || ours::build(black_box(kind), black_box(&mut a), &black_box(texts)), rust);
     }
 }

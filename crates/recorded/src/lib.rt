@@ -1,6 +1,8 @@
 // Reading recorded cases, which differential/record writes: one case a line, numbers and bytes in hexadecimal.
 // It says no paragraph of document 01; the programs that replay recorded answers of the Rust read them by this.
-ghost use Prim.Native.Nat.{_<_};
+ghost use mathlib.Core.Path.{_≡_};
+ghost use Prim.Native.Nat.{_<_, _≤_};
+ghost use lib.ListN.{length};
 ghost use Rattle.io.specs.Counts.{Counts};
 
 // The value of a hexadecimal digit in lower case, 0 of any other byte.
@@ -29,14 +31,7 @@ fn byte_of(high: u8, low: u8) -> u8 {
 
 // A number with one digit more; of more than sixteen the last sixteen count.
 fn with_digit(n: u64, b: u8) -> u64 {
-    n % 1152921504606846976 * 16 + wide(digit(b))
-}
-
-fn wide(b: u8) -> u64
-    requires { ⌜ b < 16 ⌝ }
-    ensures { λ r. ⌜ r < 16 ⌝ }
-{
-    b as u64
+    n % 1152921504606846976 * 16 + widened(digit(b))
 }
 
 // The number that digits stand for.
@@ -65,6 +60,89 @@ pub fn bytes(s: &[u8], out: &mut [u8]) -> usize
         n += 1;
     }
     n
+}
+
+// Where field `k` of a line starts, its fields parted by a blank; the line's end where it has fewer.
+fn field_start(line: &[u8], k: usize) -> usize
+    ensures { λ r. ⌜ r ≤ length (now (line .entry)) ⌝ }
+{
+    let mut at = 0;
+    let mut left = k;
+    while at < line.len() {
+        if left == 0 {
+            return at;
+        }
+        if line[at] == b' ' {
+            left -= 1;
+        }
+        at += 1;
+    }
+    at
+}
+
+// How many bytes stand before the first blank.
+fn field_len(s: &[u8]) -> usize
+    ensures { λ r. ⌜ r ≤ length (now (s .entry)) ⌝ }
+{
+    let mut i = 0;
+    while i < s.len() {
+        if s[i] == b' ' {
+            return i;
+        }
+        i += 1;
+    }
+    i
+}
+
+// Field `k` of a line; nothing where it has fewer.
+pub fn field(line: &[u8], k: usize) -> &[u8] {
+    let start = field_start(line, k);
+    let rest = &line[start..];
+    let n = field_len(rest);
+    &rest[0..n]
+}
+
+// Fills a buffer with the byte by which it is seen what a call leaves alone.
+pub fn fill(s: &mut [u8]) {
+    let mut i = 0;
+    while i < s.len() {
+        s[i] = 165;
+        i += 1;
+    }
+}
+
+// Whether every byte is still that one.
+pub fn is_filled(s: &[u8]) -> bool {
+    let mut i = 0;
+    while i < s.len() {
+        if s[i] != 165 {
+            return false;
+        }
+        i += 1;
+    }
+    true
+}
+
+// 257 times what came before, of which the lowest 55 bits count, and the byte.
+fn digest_with(sum: u64, b: u8) -> u64 {
+    sum % 36028797018963968 * 257 + widened(b)
+}
+
+fn widened(b: u8) -> u64
+    ensures { λ r. ⌜ (r ≡ b) × (r ≤ 255) ⌝ }
+{
+    b as u64
+}
+
+// A number that stands for bytes.
+pub fn digest(s: &[u8]) -> u64 {
+    let mut sum: u64 = 0;
+    let mut i = 0;
+    while i < s.len() {
+        sum = digest_with(sum, s[i]);
+        i += 1;
+    }
+    sum
 }
 
 // One byte of standard input, or that its line ends, by a byte 10 or with the input.

@@ -86,14 +86,6 @@ fn built_by(letter: u8, buf: &mut [u8], a: &[u8], b: &[u8], c: &[u8]) -> Built {
     }
 }
 
-fn fill(buf: &mut [u8]) {
-    let mut i = 0;
-    while i < buf.len() {
-        buf[i] = 165;
-        i += 1;
-    }
-}
-
 // Whether a buffer holds a message and behind it what it held before.
 fn holds(buf: &[u8], message: &[u8]) -> bool {
     if buf.len() < message.len() {
@@ -123,7 +115,7 @@ fn is_built_in(line: &[u8], s: &[u8], buf: &mut [u8]) -> bool {
     if s.len() < c {
         return false;
     }
-    fill(buf);
+    recorded::fill(buf);
     let built = built_by(line[0], buf, &s[0..a], &s[a..b], &s[b..c]);
     (built.refusal as usize == column(line, 1))
         & (built.len == column(line, 2))

@@ -33,6 +33,17 @@ pub struct Record {
     pub message: Vec<u8>,
 }
 
+impl Record {
+    /// 'Destination 4 bytes, port 2, source 4, length 2, then the message, zeros to 524; numbers are big-endian.'
+    pub fn bytes(&self) -> Vec<u8> {
+        let Record { to, from, message } = self;
+        let length = (message.len() as u16).to_be_bytes();
+        let mut bytes = [&to.address.octets()[..], &to.port.to_be_bytes(), &from.octets(), &length, message].concat();
+        bytes.resize(524, 0);
+        bytes
+    }
+}
+
 /// What a call answers, besides the records that it writes.
 #[derive(Clone, Debug, Default, PartialEq, Eq)]
 pub struct Answer {

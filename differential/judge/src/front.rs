@@ -19,7 +19,7 @@ pub struct Front {
 }
 
 /// What one readable line asks for.
-enum Line {
+pub enum Line {
     Call(Call),
     Outbox(usize),
 }
@@ -36,8 +36,7 @@ impl Front {
 
     /// What the program prints for one line, its end taken off.
     pub fn line(&mut self, line: &[u8]) -> String {
-        let read = if line.len() > 4096 { None } else { self.read(line) };
-        self.answer(read).unwrap_or("?\n".into())
+        self.answer(read(self.program, line)).unwrap_or("?\n".into())
     }
 
     fn answer(&mut self, line: Option<Line>) -> Option<String> {
@@ -58,38 +57,42 @@ impl Front {
         let details = if self.program == Program::Trace { answer.details() } else { String::new() };
         Some(answer.line() + &details)
     }
+}
 
-    fn read(&self, line: &[u8]) -> Option<Line> {
-        // A datagram is the rest of its line, tabs included.
-        let fields: Vec<&[u8]> = if line.starts_with(b"data\t") {
-            line.splitn(6, |b| *b == b'\t').collect()
-        } else {
-            line.split(|b| *b == b'\t').collect()
-        };
-        let call = match *fields.as_slice() {
-            [b"new", seed, now] => Call::New { seed: u32_of(seed)?, now: u64_of(now)? },
-            [b"link", index, flags, outcome] => {
-                Call::Link { index: u32_of(index)?, flags: u32_of(flags)?, outcome: u32_of(outcome)? }
-            }
-            [b"dellink", index, outcome] => Call::DelLink { index: u32_of(index)?, outcome: u32_of(outcome)? },
-            [b"addr", index, address] => Call::Addr { index: u32_of(index)?, address: dotted(address)?.octets().into() },
-            [b"deladdr", index, address] => {
-                Call::DelAddr { index: u32_of(index)?, address: dotted(address)?.octets().into() }
-            }
-            [b"subscribe", kind] => Call::Subscribe { kind: kind.into() },
-            [b"advertise", name, kind, location] => {
-                Call::Advertise { name: name.into(), kind: kind.into(), location: location.into() }
-            }
-            [b"deadvertise", name] => Call::Deadvertise { name: name.into() },
-            [b"refresh"] => Call::Refresh,
-            [b"timeout", now] => Call::Timeout { now: u64_of(now)? },
-            [b"reset", now] => Call::Reset { now: u64_of(now)? },
-            [b"data", now, from, port, to, rest] => data(now, from, port, to, line_ends(rest))?,
-            _ if self.program == Program::Trace => return trace_line(&fields),
-            _ => return None,
-        };
-        Some(Line::Call(call))
+/// What a line asks for; nothing where it is unreadable.
+pub fn read(program: Program, line: &[u8]) -> Option<Line> {
+    if line.len() > 4096 {
+        return None;
     }
+    // A datagram is the rest of its line, tabs included.
+    let fields: Vec<&[u8]> = if line.starts_with(b"data\t") {
+        line.splitn(6, |b| *b == b'\t').collect()
+    } else {
+        line.split(|b| *b == b'\t').collect()
+    };
+    let call = match *fields.as_slice() {
+        [b"new", seed, now] => Call::New { seed: u32_of(seed)?, now: u64_of(now)? },
+        [b"link", index, flags, outcome] => {
+            Call::Link { index: u32_of(index)?, flags: u32_of(flags)?, outcome: u32_of(outcome)? }
+        }
+        [b"dellink", index, outcome] => Call::DelLink { index: u32_of(index)?, outcome: u32_of(outcome)? },
+        [b"addr", index, address] => Call::Addr { index: u32_of(index)?, address: dotted(address)?.octets().into() },
+        [b"deladdr", index, address] => {
+            Call::DelAddr { index: u32_of(index)?, address: dotted(address)?.octets().into() }
+        }
+        [b"subscribe", kind] => Call::Subscribe { kind: kind.into() },
+        [b"advertise", name, kind, location] => {
+            Call::Advertise { name: name.into(), kind: kind.into(), location: location.into() }
+        }
+        [b"deadvertise", name] => Call::Deadvertise { name: name.into() },
+        [b"refresh"] => Call::Refresh,
+        [b"timeout", now] => Call::Timeout { now: u64_of(now)? },
+        [b"reset", now] => Call::Reset { now: u64_of(now)? },
+        [b"data", now, from, port, to, rest] => data(now, from, port, to, line_ends(rest))?,
+        _ if program == Program::Trace => return trace_line(&fields),
+        _ => return None,
+    };
+    Some(Line::Call(call))
 }
 
 /// The lines that `trace` reads besides the session's.

@@ -4,20 +4,20 @@ use Prim.Native.Nat.{_≤_, _-_}
 use lib.ListN.{length, length-set}
 use native.Mathlib.Omega.{arith}
 use mathlib.Core.Path.{_≡_}
-use Rattle.vectors_message.proofs.fill.Statement.{statement}
-use Rattle.vectors_message.proofs.fill.Tie as tie
+use Rattle.recorded.proofs.fill.Statement.{statement}
+use Rattle.recorded.proofs.fill.Tie as tie
 
 abbrev Inv-loop : tie.InvT-loop
-Inv-loop buf₀ i₀ buf i = (i ≤ length buf) × (length buf ≡ length buf₀)
+Inv-loop s₀ i₀ s i = (i ≤ length s) × (length s ≡ length s₀)
 
 abbrev μ-loop : tie.MeasureT-loop
-μ-loop buf₀ i₀ buf i = length buf - i
+μ-loop s₀ i₀ s i = length s - i
 
 loop-holds : tie.Need-loop-holds Inv-loop μ-loop
 loop-holds c = search needs
 
-slice-write-buf : tie.Need-slice-write-buf Inv-loop μ-loop
-slice-write-buf c = search needs
+slice-write-s : tie.Need-slice-write-s Inv-loop μ-loop
+slice-write-s c = search needs
 
 add-i : tie.Need-add-i Inv-loop μ-loop
 add-i c = search needs
@@ -41,7 +41,7 @@ fill-spec =
     Inv-loop
     μ-loop
     loop-holds
-    slice-write-buf
+    slice-write-s
     add-i
     loop-less
     loop-again

@@ -8,29 +8,30 @@ use native.Mathlib.Nat.{zero-add}
 use borrow.Author.Tests.{ltb-false, le-ltb, eq-eqb, ne-eqb}
 use lib.Dec.{eqb, ltb}
 use lib.ListN.{length, drop, length-append}
+use Rattle.text.specs.Range.{every}
 use Rattle.text.specs.Bytes.{bytes, indexOf, firstPlace}
 use Rattle.text.specs.Good.{goodText}
 use Rattle.text.specs.Utf8.{utf8, rest}
 use Rattle.text.specs.White.{leading, trailing, run}
 use Rattle.message.specs.Refusals.{accepted, textOverSize, textNotGood, bufferShort}
-use Rattle.message.specs.Put.{overwritten, Put}
-use Rattle.message.specs.Build.{Bounded, buildRefusal, Builds, anyOverSize, anyNotGood, searchTexts, byebyeTexts, locatedTexts, searchText, responseText, notifyText, byebyeText, message, headerLines, headerLine, searchLine, responseLine, notifyLine, hostText, maxAgeText, serverText, bootHeaders}
+use Rattle.text.specs.Put.{overwritten, Put}
+use Rattle.message.specs.Build.{Bounded, buildRefusal, Builds, anyOverSize, anyNotGood, searchTexts, byebyeTexts, locatedTexts, searchText, responseText, notifyText, byebyeText, searchHeaders, responseHeaders, notifyHeaders, byebyeHeaders, message, headerLines, headerLine, searchLine, responseLine, notifyLine, hostText, maxAgeText, serverText, bootHeaders}
 
 -- lengths: "Bytes besides the fields: search 86, response 116, notify 163, byebye 152"
 pub search-length : (st : List ℕ) → length (searchText st) ≡ 86 + length st
-unfolding searchText message headerLines headerLine searchLine hostText bytes
+unfolding searchText searchHeaders message headerLines headerLine searchLine hostText bytes
 search-length st = simp length-append (omega arith)
 
 pub response-length : (st usn loc : List ℕ) → length (responseText st usn loc) ≡ 116 + (length st + (length usn + length loc))
-unfolding responseText message headerLines headerLine responseLine maxAgeText serverText bootHeaders bytes
+unfolding responseText responseHeaders message headerLines headerLine responseLine maxAgeText serverText bootHeaders bytes
 response-length st usn loc = simp length-append (omega arith)
 
 pub notify-length : (nt usn loc : List ℕ) → length (notifyText nt usn loc) ≡ 163 + (length nt + (length usn + length loc))
-unfolding notifyText message headerLines headerLine notifyLine hostText maxAgeText serverText bootHeaders bytes
+unfolding notifyText notifyHeaders message headerLines headerLine notifyLine hostText maxAgeText serverText bootHeaders bytes
 notify-length nt usn loc = simp length-append (omega arith)
 
 pub byebye-length : (nt usn : List ℕ) → length (byebyeText nt usn) ≡ 152 + (length nt + length usn)
-unfolding byebyeText message headerLines headerLine notifyLine hostText maxAgeText serverText bootHeaders bytes
+unfolding byebyeText byebyeHeaders message headerLines headerLine notifyLine hostText maxAgeText serverText bootHeaders bytes
 byebye-length nt usn = simp length-append (omega arith)
 
 -- an accepted build has room
@@ -67,11 +68,11 @@ module _ (texts : List Bounded) {message buffer : List ℕ} {n : ℕ} (e : n ≡
 -- the refusal over three texts is that over the texts that a message has, since an empty text is within its size and good
 module _ (room : ℕ) where
   pub search-refusal : (st : List ℕ) → buildRefusal (locatedTexts st [] []) (86 + (length st + (0 + 0))) room ≡ buildRefusal (searchTexts st) (length (searchText st)) room
-  unfolding buildRefusal goodText utf8 rest indexOf firstPlace leading trailing run
+  unfolding buildRefusal goodText utf8 rest indexOf firstPlace every leading trailing run
   search-refusal st = ap (λ (k : ℕ). buildRefusal (searchTexts st) k room) (omega (arith, search-length st))
 
   pub byebye-refusal : (nt usn : List ℕ) → buildRefusal (locatedTexts nt usn []) (152 + (length nt + (length usn + 0))) room ≡ buildRefusal (byebyeTexts nt usn) (length (byebyeText nt usn)) room
-  unfolding buildRefusal goodText utf8 rest indexOf firstPlace leading trailing run
+  unfolding buildRefusal goodText utf8 rest indexOf firstPlace every leading trailing run
   byebye-refusal nt usn = ap (λ (k : ℕ). buildRefusal (byebyeTexts nt usn) k room) (omega (arith, byebye-length nt usn))
 
   pub response-refusal : (st usn loc : List ℕ)

@@ -1,8 +1,9 @@
 -- Laws that belong to no one function.
-pub mod Put
 pub mod Texts
 pub mod Building
 pub mod Keys
 pub mod Lookup
 pub mod Reading
+pub mod Written
 pub mod Sending
+pub mod RoundTrip

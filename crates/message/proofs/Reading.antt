@@ -113,16 +113,16 @@ is-empty [] h = refl
 is-empty (b ∷ s) h = absurd (omega arith)
 
 -- the message of each first line
-abbrev notified : List ℕ → Message
+abbrev pub notified : List ℕ → Message
 notified s = notifyOf s (header s (bytes "NTS")) (header s (bytes "NT")) (header s (bytes "USN")) (header s (bytes "LOCATION"))
 
-abbrev responded : List ℕ → Message
+abbrev pub responded : List ℕ → Message
 responded s = responseOf (header s (bytes "ST")) (header s (bytes "USN")) (header s (bytes "LOCATION"))
 
-abbrev searched : List ℕ → Message
+abbrev pub searched : List ℕ → Message
 searched s = searchOf s (header s (bytes "ST")) (header s (bytes "MX"))
 
-abbrev byLine : List ℕ → List ℕ → Message
+abbrev pub byLine : List ℕ → List ℕ → Message
 byLine s first = cond (equal first notifyLine) (notified s) (cond (equal first responseLine) (responded s) (cond (equal first searchLine) (searched s) Invalid))
 
 module _ (s : List ℕ) (some : length s ≡ 0 → ⊥) {u : Bool} (encoded : u ≡ utf8 s) where
@@ -133,7 +133,11 @@ module _ (s : List ℕ) (some : length s ≡ 0 → ⊥) {u : Bool} (encoded : u 
   pub not-encoded : u ≡ false → Invalid ≡ parsed s
   not-encoded f = sym (ap (λ (b : Bool). cond (not b) Invalid (byLine s (startLine s))) (sym encoded ∙ f)) ∙ not-empty
 
-  module _ (yes : u ≡ true) {r : Line} (line : r ≡ firstLine s) {first : List ℕ} (start : first ≡ take (r .len) s) where
+  pub with-start : u ≡ true → {first : List ℕ} → first ≡ startLine s → byLine s first ≡ parsed s
+  with-start ok start =
+      ap (byLine s) start ∙ sym (ap (λ (b : Bool). cond (not b) Invalid (byLine s (startLine s))) (sym encoded ∙ ok)) ∙ not-empty
+
+  module _ (ok : u ≡ true) {r : Line} (line : r ≡ firstLine s) {first : List ℕ} (start : first ≡ take (r .len) s) where
     line-of : Joined s r
     line-of = joined s (omega (arith, some)) line
 
@@ -141,9 +145,7 @@ module _ (s : List ℕ) (some : length s ≡ 0 → ⊥) {u : Bool} (encoded : u 
     first-inside = omega (arith, line-of .short, line-of .inside)
 
     by-line : byLine s first ≡ parsed s
-    by-line =
-        ap (byLine s) (start ∙ ap (λ (x : Line). take (x .len) s) line)
-        ∙ sym (ap (λ (b : Bool). cond (not b) Invalid (byLine s (startLine s))) (sym encoded ∙ yes)) ∙ not-empty
+    by-line = with-start ok (start ∙ ap (λ (x : Line). take (x .len) s) line)
 
     -- the lines behind the first give the header of each key
     look : (key : List ℕ) → headerIn key (r .next) (lines (drop (r .next) s)) ≡ header s key

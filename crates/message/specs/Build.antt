@@ -108,47 +108,59 @@ serverText = bytes "none/0 UPnP/1.0 cotton-ssdp/1.0.0"
 unfoldable pub bootHeaders : List HeaderField
 bootHeaders = []
 
-unfoldable pub searchText : List ℕ → List ℕ
-searchText searchTarget =
-    message searchLine
-    (field "HOST" hostText
+-- a search
+unfoldable pub searchHeaders : List ℕ → List HeaderField
+searchHeaders searchTarget =
+    field "HOST" hostText
     ∷ field "MAN" (bytes "\"ssdp:discover\"")
     ∷ field "MX" (bytes "5")
     ∷ field "ST" searchTarget
-    ∷ [])
+    ∷ []
 
-unfoldable pub responseText : List ℕ → List ℕ → List ℕ → List ℕ
-responseText searchTarget uniqueServiceName location =
-    message responseLine
-    (field "CACHE-CONTROL" maxAgeText
+unfoldable pub searchText : List ℕ → List ℕ
+searchText searchTarget = message searchLine (searchHeaders searchTarget)
+
+-- the answer to a search
+unfoldable pub responseHeaders : List ℕ → List ℕ → List ℕ → List HeaderField
+responseHeaders searchTarget uniqueServiceName location =
+    field "CACHE-CONTROL" maxAgeText
     ∷ field "ST" searchTarget
     ∷ field "USN" uniqueServiceName
     ∷ field "LOCATION" location
     ∷ field "SERVER" serverText
-    ∷ bootHeaders)
+    ∷ bootHeaders
 
-unfoldable pub notifyText : List ℕ → List ℕ → List ℕ → List ℕ
-notifyText notificationType uniqueServiceName location =
-    message notifyLine
-    (field "HOST" hostText
+unfoldable pub responseText : List ℕ → List ℕ → List ℕ → List ℕ
+responseText searchTarget uniqueServiceName location = message responseLine (responseHeaders searchTarget uniqueServiceName location)
+
+-- a service is there
+unfoldable pub notifyHeaders : List ℕ → List ℕ → List ℕ → List HeaderField
+notifyHeaders notificationType uniqueServiceName location =
+    field "HOST" hostText
     ∷ field "CACHE-CONTROL" maxAgeText
     ∷ field "LOCATION" location
     ∷ field "NT" notificationType
     ∷ field "NTS" (bytes "ssdp:alive")
     ∷ field "USN" uniqueServiceName
     ∷ field "SERVER" serverText
-    ∷ bootHeaders)
+    ∷ bootHeaders
 
-unfoldable pub byebyeText : List ℕ → List ℕ → List ℕ
-byebyeText notificationType uniqueServiceName =
-    message notifyLine
-    (field "HOST" hostText
+unfoldable pub notifyText : List ℕ → List ℕ → List ℕ → List ℕ
+notifyText notificationType uniqueServiceName location = message notifyLine (notifyHeaders notificationType uniqueServiceName location)
+
+-- a service goes
+unfoldable pub byebyeHeaders : List ℕ → List ℕ → List HeaderField
+byebyeHeaders notificationType uniqueServiceName =
+    field "HOST" hostText
     ∷ field "CACHE-CONTROL" maxAgeText
     ∷ field "NT" notificationType
     ∷ field "NTS" (bytes "ssdp:byebye")
     ∷ field "USN" uniqueServiceName
     ∷ field "SERVER" serverText
-    ∷ bootHeaders)
+    ∷ bootHeaders
+
+unfoldable pub byebyeText : List ℕ → List ℕ → List ℕ
+byebyeText notificationType uniqueServiceName = message notifyLine (byebyeHeaders notificationType uniqueServiceName)
 
 -- the texts that each `build_*` is given, with their largest sizes
 abbrev pub searchTexts : List ℕ → List Bounded

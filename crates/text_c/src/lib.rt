@@ -1,29 +1,44 @@
-// Crate `text` for a host, as functions over byte slices that a static library exports: UTF-8 and lines (document 01,
-// 'Text rules'). The comparisons and benchmarks of differential/ link it.
-ghost use mathlib.Core.Path.{_≡_};
-ghost use mathlib.Core.List.{List};
-ghost use Rattle.text.specs.Utf8.{utf8};
-ghost use Rattle.text.specs.Lines.{lines};
-ghost use lib.ListN.{length};
+// The text rules for a host that is not Rattle: what differential/bench_text links and measures beside
+// Rust's own functions.
+// A line at the front of a text: its length without its end, and where the next one begins.
+#[repr(C)]
+pub struct Cut {
+    pub len: usize,
+    pub next: usize,
+}
 
 #[no_mangle]
-pub extern "C" fn text_c_is_utf8(s: &[u8]) -> bool
-    ensures { λ r. ⌜ r ≡ utf8 (now (s .entry)) ⌝ }
-{
+pub extern "C" fn text_is_utf8(s: &[u8]) -> bool {
     text::utf8::is_utf8(s)
 }
 
-// How many lines there are.
 #[no_mangle]
-pub extern "C" fn text_c_lines(s: &[u8]) -> usize
-    ensures { λ r. ⌜ r ≡ length (lines (now (s .entry))) ⌝ }
-{
-    let mut count = 0;
-    let mut at = 0;
-    while at < s.len() {
-        let line = text::lines::first_line(&s[at..]);
-        at += line.next;
-        count += 1;
+pub extern "C" fn text_first_line(s: &[u8]) -> Cut {
+    let l = text::lines::first_line(s);
+    Cut {
+        len: l.len,
+        next: l.next,
     }
-    count
+}
+
+// A part of a text: where it starts, and its length.
+#[repr(C)]
+pub struct Part {
+    pub start: usize,
+    pub len: usize,
+}
+
+#[no_mangle]
+pub extern "C" fn text_trim(s: &[u8]) -> Part {
+    let p = text::white::trim(s);
+    Part {
+        start: p.start,
+        len: p.len,
+    }
+}
+
+// Whether a text may be handed in.
+#[no_mangle]
+pub extern "C" fn text_is_good(s: &[u8]) -> bool {
+    text::good::is_good(s)
 }

@@ -1,5 +1,5 @@
--- A text written into a buffer: document 01, 'Who can be turned away', "bytes behind a built message keep their values".
-use Prim.Native.Nat.{ℕ, _+_}
+-- A text written into a lent buffer (document 01, 'Who can be turned away': "bytes behind a built message keep their values").
+use Prim.Native.Nat.{ℕ, _+_, _≤_, _<_}
 use mathlib.Core.Path.{_≡_}
 use mathlib.Core.List.{List, _++_}
 use lib.ListN.{length, take, drop}
@@ -12,3 +12,8 @@ overwritten buffer at text = take at buffer ++ text ++ drop (at + length text) b
 pub record Put (buffer : List ℕ) (at : ℕ) (text after : List ℕ) (next : ℕ) : Type 0 where
   pub place : next ≡ at + length text
   pub written : after ≡ overwritten buffer at text
+
+-- what `put` promises of any place and text: one that does not fit writes nothing
+pub record Puts (buffer : List ℕ) (at : ℕ) (text after : List ℕ) (next : ℕ) : Type 0 where
+  pub fitting : at + length text ≤ length buffer → Put buffer at text after next
+  pub otherwise : length buffer < at + length text → (after ≡ buffer) × (next ≡ at)

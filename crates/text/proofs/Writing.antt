@@ -8,7 +8,7 @@ use native.Mathlib.Nat.{add-zero}
 use native.Mathlib.Numerals.{add-one}
 use lib.ListN.{length, take, drop, set, getD, length-append, length-drop, drop-of-length-le, take-append-drop}
 use lib.Seq.{paste, paste-zero, paste-suc, take-at, drop-at, take-append-seam, drop-append-add, drop-drop, take-length, length-take-le, take-append-le, take-take, take-all}
-use Rattle.message.specs.Put.{overwritten, Put}
+use Rattle.text.specs.Put.{overwritten, Put}
 
 -- one turn of a loop that copies `text` to `at`
 pub turn : (buffer after text : List ℕ) (at i next : ℕ) → next ≡ at + i → at + i < length buffer → i < length text → after ≡ paste buffer at text i

@@ -45,10 +45,10 @@ unfolding buildRefusal
 room texts m b e z = ltb-false b m (last-test (anyOverSize texts) (anyNotGood texts) (ltb b m) (sym e ∙ z))
 
 -- what a refused build, and an accepted one, leaves
-module _ (texts : List Bounded) {message buffer : List ℕ} {n : ℕ} (e : n ≡ buildRefusal texts (length message) (length buffer)) where
+module _ (texts : List Bounded) {message buffer : List ℕ} {n k : ℕ} (answered : n ≡ k) (right : k ≡ buildRefusal texts (length message) (length buffer)) where
   pub refused : (n ≡ 0 → ⊥) → Builds texts message buffer buffer (record { refusal = n; len = 0 })
   refused f = record {
-    refusal = e;
+    refusal = answered ∙ right;
     len = sym (ap (λ (t : Bool). cond t (length message) 0) (ne-eqb n 0 f));
     written = sym (ap (λ (t : Bool). cond t (message ++ drop (length message) buffer) buffer) (ne-eqb n 0 f));
   }
@@ -56,7 +56,7 @@ module _ (texts : List Bounded) {message buffer : List ℕ} {n : ℕ} (e : n ≡
   pub done : {after : List ℕ} {l : ℕ} → n ≡ 0 → Put buffer 0 message after l → Builds texts message buffer after (record { refusal = n; len = l })
   unfolding overwritten
   done z p = record {
-    refusal = e;
+    refusal = answered ∙ right;
     len = p .place ∙ zero-add (length message) ∙ sym (ap (λ (t : Bool). cond t (length message) 0) (eq-eqb n 0 z));
     written =
         p .written

@@ -14,7 +14,7 @@ use text::number::Number;
 use text::utf8;
 use text::white::Place;
 ghost use mathlib.Core.Path.{_≡_};
-ghost use Rattle.message.specs.Parse.{fieldAt, aliveOf, byebyeOf, notifyOf, responseOf, searchOf, parsed};
+ghost use Rattle.message.specs.Parse.{fieldAt, aliveOf, byebyeOf, notifyOf, responseOf, searchOf, notifyFrom, responseFrom, searchFrom, parsed};
 
 pub mod build;
 pub mod headers;
@@ -152,6 +152,28 @@ fn search_of(s: &[u8], st: Header, mx: Header) -> Message
     }
 }
 
+// The message of each first line, from the headers of the lines from `from` on.
+fn notify_from(s: &[u8], from: usize) -> Message
+    ensures { λ r. ⌜ r ≡ notifyFrom (now (s .entry)) from ⌝ }
+{
+    let h = headers::headers_from(s, from);
+    notify_of(s, h[NTS], h[NT], h[USN], h[LOCATION])
+}
+
+fn response_from(s: &[u8], from: usize) -> Message
+    ensures { λ r. ⌜ r ≡ responseFrom (now (s .entry)) from ⌝ }
+{
+    let h = headers::headers_from(s, from);
+    response_of(h[ST], h[USN], h[LOCATION])
+}
+
+fn search_from(s: &[u8], from: usize) -> Message
+    ensures { λ r. ⌜ r ≡ searchFrom (now (s .entry)) from ⌝ }
+{
+    let h = headers::headers_from(s, from);
+    search_of(s, h[ST], h[MX])
+}
+
 // The message of a datagram. A first line of no kind needs no look at the headers.
 pub fn parse(buf: &[u8]) -> Message
     ensures { λ r. ⌜ r ≡ parsed (now (buf .entry)) ⌝ }
@@ -167,16 +189,13 @@ pub fn parse(buf: &[u8]) -> Message
     let next = line.next;
     let first = &buf[..len];
     if bytes::equal(first, b"NOTIFY * HTTP/1.1") {
-        let h = headers::headers_from(buf, next);
-        return notify_of(buf, h[NTS], h[NT], h[USN], h[LOCATION]);
+        return notify_from(buf, next);
     }
     if bytes::equal(first, b"HTTP/1.1 200 OK") {
-        let h = headers::headers_from(buf, next);
-        return response_of(h[ST], h[USN], h[LOCATION]);
+        return response_from(buf, next);
     }
     if bytes::equal(first, b"M-SEARCH * HTTP/1.1") {
-        let h = headers::headers_from(buf, next);
-        return search_of(buf, h[ST], h[MX]);
+        return search_from(buf, next);
     }
     Message::Invalid
 }

@@ -25,6 +25,9 @@ pub use build::build_notify;
 pub use build::build_response;
 pub use build::build_search;
 
+// MX has 8 bits.
+const MX_MAX: u64 = 255;
+
 // What a datagram says, or that it is refused: Empty 7, Invalid 8.
 pub enum Message {
     Empty,
@@ -143,7 +146,7 @@ fn search_of(s: &[u8], st: Header, mx: Header) -> Message
     let Header::At(place) = mx else {
         return Message::Invalid;
     };
-    let Number::Value(seconds) = number::u8_of(field(s, place)) else {
+    let Number::Value(seconds) = number::up_to(field(s, place), MX_MAX) else {
         return Message::Invalid;
     };
     Message::Search {

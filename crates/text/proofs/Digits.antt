@@ -9,6 +9,7 @@ use borrow.Author.Tests.{le-leb, lt-leb, eq-eqb, ne-eqb}
 use lib.Dec.{leb, eqb}
 use lib.ListN.{length, drop, getD, take, drop-of-length-le}
 use lib.Seq.{drop-cons, take-all}
+use Rattle.text.specs.Range.{every}
 use Rattle.text.specs.Number.{value, digits, more, unsigned, number}
 use Rattle.text.specs.declared.number.Number.{Number}
 use Rattle.text.specs.declared.number.Number.the-variants.{Value, Invalid}
@@ -37,22 +38,22 @@ some-digits max (d ∷ s) h = refl
 -- a turn of the loop
 module _ (max n : ℕ) (s : List ℕ) (i : ℕ) (inside : i < length s) where
   pub digit-below : getD s i 0 < 48 → more max n (drop i s) ≡ Invalid
-  unfolding more digits
+  unfolding more every
   digit-below g = rw (drop-cons s i 0, lt-leb 48 (getD s i 0) g)
 
   pub digit-above : 48 ≤ getD s i 0 → 57 < getD s i 0 → more max n (drop i s) ≡ Invalid
-  unfolding more digits
+  unfolding more every
   digit-above k g = rw (drop-cons s i 0, le-leb 48 (getD s i 0) k, lt-leb (getD s i 0) 57 g)
 
   pub digit-turn : 48 ≤ getD s i 0 → getD s i 0 ≤ 57 → more max n (drop i s) ≡ more max (n * 10 + (getD s i 0 - 48)) (drop (i + 1) s)
-  unfolding more digits value
+  unfolding more every value
   digit-turn k g = rw (add-one, drop-cons s i 0, le-leb 48 (getD s i 0) k, le-leb (getD s i 0) 57 g)
 
   pub digit-over : 48 ≤ getD s i 0 → getD s i 0 ≤ 57 → max < n * 10 + (getD s i 0 - 48) → more max n (drop i s) ≡ Invalid
   digit-over k g m = digit-turn k g ∙ above max (n * 10 + (getD s i 0 - 48)) (drop (i + 1) s) m
 
 pub digits-end : (max n : ℕ) (s : List ℕ) (i : ℕ) → length s ≤ i → n ≤ max → more max n (drop i s) ≡ Value n
-unfolding more digits value
+unfolding more every value
 digits-end max n s i h k = rw (drop-of-length-le s h, le-leb n max k)
 
 -- the sign

@@ -1,14 +1,15 @@
 -- Laws of finding: the first place of a test is i and the first place in what follows i, as long as the test fails before i.
 use mathlib.Core.Path.{_≡_, refl, sym, _∙_, ap}
-use mathlib.Core.Bool.{Bool, true, false, cond}
+use mathlib.Core.Bool.{Bool, true, false, cond, not, and-eq-true-iff}
 use mathlib.Core.List.{List, [], _∷_}
 use Prim.Native.Nat.{ℕ, zero, suc, _+_, _-_, _≤_, _<_}
 use native.Mathlib.Omega.{arith}
-use borrow.Author.Tests.{eqb-true, eqb-false, eq-eqb, ne-eqb, lt-ltb, le-ltb}
+use borrow.Author.Tests.{eqb-true, eqb-false, eq-eqb, ne-eqb, lt-ltb, le-ltb, not-true}
 use lib.Dec.{eqb, ltb}
-use lib.ListN.{length, drop, getD, drop-of-length-le, length-drop}
-use lib.Seq.{drop-drop, getD-drop}
-use Rattle.text.specs.Bytes.{firstPlace, headed, indexOf, lastIndexOf, indexOfText, startsWith}
+use lib.ListN.{length, take, drop, getD, drop-of-length-le, length-drop}
+use lib.Seq.{drop-drop, getD-drop, take-length, drop-length}
+use Rattle.text.specs.Range.{every}
+use Rattle.text.specs.Bytes.{lacks, firstPlace, headed, indexOf, lastIndexOf, indexOfText, startsWith}
 
 shorter : (t : Bool) (n m : ℕ) → n ≤ m → cond t 0 (suc n) ≤ suc m
 shorter true n m h = omega arith
@@ -66,6 +67,29 @@ indexOf-le b s = place-le (headed b) s
 pub indexOfText-le : (p s : List ℕ) → indexOfText p s ≤ length s
 unfolding indexOfText
 indexOfText-le p s = place-le (startsWith p) s
+
+-- a front without b is passed as a whole
+pub lacks-front : (b k : ℕ) (s : List ℕ) → k ≤ length s → lacks b (take k s) ≡ true → indexOf b s ≡ k + indexOf b (drop k s)
+unfolding every indexOf firstPlace
+lacks-front b zero s h e = omega arith
+lacks-front b (suc k) [] h e = absurd (omega arith)
+lacks-front b (suc k) (a ∷ s) h e =
+    let p = and-eq-true-iff (not (eqb a b)) (lacks b (take k s)) .0 e in
+    let q : indexOf b s ≡ k + indexOf b (drop k s) = lacks-front b k s (omega arith) (p .1) in
+    ap (λ (t : Bool). cond t 0 (suc (indexOf b s))) (not-true (eqb a b) (p .0)) ∙ omega (arith, q)
+
+pub block-turn : (b : ℕ) (s : List ℕ) (i k : ℕ) → i + k ≤ length s → lacks b (take (i + k - i) (drop i s)) ≡ true → indexOf b s ≡ i + indexOf b (drop i s) → indexOf b s ≡ i + k + indexOf b (drop (i + k) s)
+block-turn b s i k h e p =
+    let z : k ≡ i + k - i = omega arith in
+    let q : indexOf b (drop i s) ≡ k + indexOf b (drop k (drop i s)) = lacks-front b k (drop i s) (omega (arith, length-drop i s)) (ap (λ (m : ℕ). lacks b (take m (drop i s))) z ∙ e) in
+    omega (arith, p, q, ap (indexOf b) (drop-drop k i s))
+
+pub lacks-place : (b : ℕ) (s : List ℕ) → lacks b s ≡ true → indexOf b s ≡ length s
+unfolding indexOf firstPlace
+lacks-place b s e =
+    let q : indexOf b s ≡ length s + indexOf b (drop (length s) s) = lacks-front b (length s) s (omega arith) (ap (lacks b) (take-length s) ∙ e) in
+    let r : indexOf b (drop (length s) s) ≡ 0 = ap (indexOf b) (drop-length s) in
+    omega (arith, q, r)
 
 -- b stands at the first place of b
 found-step : (a b : ℕ) (s : List ℕ) (t : Bool) → eqb a b ≡ t → (firstPlace (headed b) s < length s → getD s (firstPlace (headed b) s) 0 ≡ b)

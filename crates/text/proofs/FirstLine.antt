@@ -114,27 +114,27 @@ unfolding lines
 no-lines = refl
 
 -- what `first_line` answers
+first-of : (s l : List ℕ) (ls : List (List ℕ)) {m n : ℕ} → lines s ≡ l ∷ ls → m ≡ length (bare l) → n ≡ length l → record { len = m; next = n } ≡ firstLine s
+unfolding firstLine
+first-of s l ls {m} {n} c p q = ap (λ (k : ℕ). record { len = k; next = n }) p ∙ ap (λ (k : ℕ). record { len = length (bare l); next = k }) q ∙ sym (ap lineOf c)
+
 pub no-end : (s : List ℕ) {n : ℕ} → n ≡ indexOf 10 s → length s ≤ n → record { len = n; next = n } ≡ firstLine s
 unfolding firstLine lines indexOf firstPlace
 no-end [] {n} e h = ap (λ (k : ℕ). record { len = k; next = k }) e
 no-end (b ∷ s) {n} e h =
     let m : n ≡ length (b ∷ s) = omega (arith, e, indexOf-le 10 (b ∷ s)) in
     let g : length (b ∷ s) ≤ indexOf 10 (b ∷ s) = omega (arith, e) in
-    ap (λ (k : ℕ). record { len = k; next = k }) m
-    ∙ ap (λ (l : List ℕ). record { len = length l; next = length (b ∷ s) }) (sym (bare-whole (b ∷ s) (omega arith) g))
-    ∙ sym (ap lineOf (whole (b ∷ s) (omega arith) g))
+    first-of (b ∷ s) (b ∷ s) [] (whole (b ∷ s) (omega arith) g) (m ∙ ap length (sym (bare-whole (b ∷ s) (omega arith) g))) m
 
 pub at-end : (s : List ℕ) {n m : ℕ} → n ≡ indexOf 10 s → n < length s → m ≡ length (without 13 (take n s)) → record { len = m; next = n + 1 } ≡ firstLine s
-unfolding firstLine
 at-end s {n} {m} e h q =
     let g : indexOf 10 s < length s = omega (arith, e) in
     let x : suc n - 1 ≡ n = omega arith in
+    let y : n + 1 ≡ suc n = omega arith in
     let v : getD s (suc n - 1) 0 ≡ 10 = ap (λ (j : ℕ). getD s j 0) (x ∙ e) ∙ indexOf-found 10 s g in
     let w : bare (take (suc n) s) ≡ without 13 (take n s) = bare-ended s (suc n) (λ f. omega (arith, f)) (omega arith) v ∙ ap (λ (j : ℕ). without 13 (take j s)) x in
-    let y : length (take (suc n) s) ≡ n + 1 = length-take-le (suc n) s (omega arith) ∙ omega arith in
-    ap (λ (k : ℕ). record { len = k; next = n + 1 }) (q ∙ sym (ap length w))
-    ∙ ap (λ (k : ℕ). record { len = length (bare (take (suc n) s)); next = k }) (sym y)
-    ∙ sym (ap lineOf (cut s g ∙ ap (λ (j : ℕ). take (suc j) s ∷ lines (drop (suc j) s)) (sym e)))
+    first-of s (take (suc n) s) (lines (drop (suc n) s))
+    (cut s g ∙ ap (λ (j : ℕ). take (suc j) s ∷ lines (drop (suc j) s)) (sym e)) (q ∙ sym (ap length w)) (y ∙ sym (length-take-le (suc n) s h))
 
 -- what the first line r of a text is to its lines
 pub record Joined (s : List ℕ) (r : Line) : Type 0 where

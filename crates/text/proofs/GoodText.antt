@@ -7,9 +7,10 @@ use borrow.Author.Tests.{eqb-true}
 use lib.Dec.{eqb}
 use lib.ListN.{length}
 use Rattle.text.specs.Utf8.{utf8}
-use Rattle.text.specs.Bytes.{indexOf}
+use Rattle.text.specs.Bytes.{indexOf, lacks}
 use Rattle.text.specs.White.{leading, trailing}
-use Rattle.text.specs.Good.{lacks, goodText}
+use Rattle.text.specs.Good.{goodText}
+use Rattle.text.proofs.Finding.{lacks-place}
 
 pub record Good (s : List ℕ) : Type 0 where
   pub encoded : utf8 s ≡ true
@@ -27,8 +28,8 @@ good s e =
     let d = and-eq-true-iff (utf8 s) (lacks 10 s) .0 (c .0) in
     record {
       encoded = d .0;
-      noLineFeed = eqb-true (indexOf 10 s) (length s) (d .1);
-      noReturn = eqb-true (indexOf 13 s) (length s) (c .1);
+      noLineFeed = lacks-place 10 s (d .1);
+      noReturn = lacks-place 13 s (c .1);
       front = eqb-true (leading s) 0 (b .1);
       end = eqb-true (trailing s) 0 (a .1);
     }

@@ -4,7 +4,7 @@ use mathlib.Core.Bool.{Bool, true, false, cond, _&&_, and-false}
 use mathlib.Core.List.{List, [], _∷_, _++_, reverse, reverseAux-append}
 use Prim.Native.Nat.{ℕ, zero, suc, _+_, _-_, _*_, _%_, _≤_, _<_}
 use native.Mathlib.Omega.{arith}
-use borrow.Author.Tests.{le-leb, lt-leb}
+use borrow.Author.Tests.{le-leb, lt-leb, ne-eqb}
 use lib.Dec.{leb, eqb}
 use lib.ListN.{length, drop, take, getD, drop-of-length-le, length-drop, length-reverse}
 use lib.Seq.{take-suc, drop-drop, getD-drop, length-take-le, take-all, take-length}
@@ -13,36 +13,52 @@ use Rattle.text.specs.Utf8.{leadOf}
 use Rattle.text.specs.White.{whiteSpace, begins, white1, white2, white3, width, opening, closing, at, run, leading, trailing, trimmed}
 use Rattle.text.specs.declared.utf8.Lead.{Lead}
 use Rattle.text.specs.declared.white.Place.{Place}
+use Rattle.text.proofs.Encoding.{nowhere}
 
--- a byte 0 stands in no character behind its first byte
+-- a byte that is a character by itself stands in no other behind the first byte
 by-cond : {A : Type 0} (P : A → Type 0) (t : Bool) {x y : A} → P x → P y → P (cond t x y)
 by-cond P true p q = p
 by-cond P false p q = q
 
-abbrev Some : Lead → Type 0
-Some l = 1 ≤ l .low
+abbrev Refuses : ℕ → Lead → Type 0
+Refuses b l = within (l .low) (l .high) b ≡ false
 
-low-some : (a : ℕ) → Some (leadOf a)
+below : (low high b : ℕ) → b < low → within low high b ≡ false
+below low high b h = rw (lt-leb low b h)
+
+lead-refuses : (a b : ℕ) → b ≤ 0x7F → Refuses b (leadOf a)
 unfolding leadOf
-low-some a =
-    by-cond Some (leb a 0x7F) (omega arith)
-    (by-cond Some (within 0xC2 0xDF a) (omega arith)
-    (by-cond Some (eqb a 0xE0) (omega arith)
-    (by-cond Some (within 0xE1 0xEC a) (omega arith)
-    (by-cond Some (eqb a 0xED) (omega arith)
-    (by-cond Some (within 0xEE 0xEF a) (omega arith)
-    (by-cond Some (eqb a 0xF0) (omega arith)
-    (by-cond Some (within 0xF1 0xF3 a) (omega arith)
-    (by-cond Some (eqb a 0xF4) (omega arith) (omega arith)))))))))
+lead-refuses a b h =
+    let t : (high : ℕ) → within 0x80 high b ≡ false = λ high. below 0x80 high b (omega arith) in
+    by-cond (Refuses b) (leb a 0x7F) (t 0xBF)
+    (by-cond (Refuses b) (within 0xC2 0xDF a) (t 0xBF)
+    (by-cond (Refuses b) (eqb a 0xE0) (below 0xA0 0xBF b (omega arith))
+    (by-cond (Refuses b) (within 0xE1 0xEC a) (t 0xBF)
+    (by-cond (Refuses b) (eqb a 0xED) (t 0x9F)
+    (by-cond (Refuses b) (within 0xEE 0xEF a) (t 0xBF)
+    (by-cond (Refuses b) (eqb a 0xF0) (below 0x90 0xBF b (omega arith))
+    (by-cond (Refuses b) (within 0xF1 0xF3 a) (t 0xBF)
+    (by-cond (Refuses b) (eqb a 0xF4) (t 0x8F) (nowhere b)))))))))
 
-no-second : (tail a : ℕ) → begins tail a 0 ≡ false
+no-second : (tail a b : ℕ) → b ≤ 0x7F → begins tail a b ≡ false
 unfolding begins
-no-second tail a =
-    ap (λ (t : Bool). eqb (leadOf a .tail) tail && (t && leb 0 (leadOf a .high))) (lt-leb (leadOf a .low) 0 (low-some a))
-    ∙ and-false (eqb (leadOf a .tail) tail)
+no-second tail a b h = ap (_&&_ (eqb (leadOf a .tail) tail)) (lead-refuses a b h) ∙ and-false (eqb (leadOf a .tail) tail)
 
-no-third : (a b : ℕ) → white3 a b 0 ≡ false
-no-third a b = ap (λ (t : Bool). t && whiteSpace ((a % 16 * 64 + b % 64) * 64 + 0)) (and-false (begins 2 a b))
+no-third : (a b c : ℕ) → c ≤ 0x7F → white3 a b c ≡ false
+no-third a b c h =
+    ap (λ (t : Bool). begins 2 a b && t && whiteSpace ((a % 16 * 64 + b % 64) * 64 + c % 64)) (below 0x80 0xBF c (omega arith))
+    ∙ ap (λ (t : Bool). t && whiteSpace ((a % 16 * 64 + b % 64) * 64 + c % 64)) (and-false (begins 2 a b))
+
+-- and begins none of two or three bytes
+no-tail : (tail a b : ℕ) → a ≤ 0x7F → begins (suc tail) a b ≡ false
+unfolding begins leadOf
+no-tail tail a b h = rw (le-leb a 0x7F h, ne-eqb 0 (suc tail) (λ e. absurd (omega (arith, e))))
+
+pub opening-ascii : (a b c : ℕ) → a ≤ 0x7F → width (whiteSpace a) false false ≡ opening a b c
+opening-ascii a b c h = sym (rw (le-leb a 0x7F h, no-tail 0 a b h, no-tail 1 a b h))
+
+pub closing-ascii : (c b a : ℕ) → c ≤ 0x7F → width (whiteSpace c) false false ≡ closing c b a
+closing-ascii c b a h = sym (rw (le-leb c 0x7F h, no-second 1 b c h, no-third a b c h))
 
 -- a test that counts no more bytes than there are
 pub record Bounded (f : ℕ → ℕ → ℕ → ℕ) : Type 0 where
@@ -69,10 +85,10 @@ width-three false false false = omega arith
 pub opening-bounded : Bounded opening
 unfolding whiteSpace
 opening-bounded = record {
-  one = λ a. rw (no-second 1 a, no-second 2 a) (width-one (white1 a));
-  two = λ a b. rw (no-third a b) (width-two (white1 a) (white2 a b));
+  one = λ a. rw (no-second 1 a 0 (omega arith), no-second 2 a 0 (omega arith)) (width-one (white1 a));
+  two = λ a b. rw (no-third a b 0 (omega arith)) (width-two (white1 a) (white2 a b));
   three = λ a b c. width-three (white1 a) (white2 a b) (white3 a b c);
-  none = rw (no-second 1 0, no-second 2 0);
+  none = sym (opening-ascii 0 0 0 (omega arith));
 }
 
 pub closing-bounded : Bounded closing

@@ -2,11 +2,11 @@
 use Prim.Native.Nat.{ℕ, suc, _-_}
 use Prim.Native.Char.{code}
 use Prim.Native.String.{String, [] as []ˢ, _∷_ as _∷ˢ_}
-use mathlib.Core.Bool.{Bool, true, false, cond, _&&_}
+use mathlib.Core.Bool.{Bool, true, false, cond, _&&_, not}
 use mathlib.Core.List.{List, [], _∷_}
 use lib.Dec.{eqb, ltb}
 use lib.ListN.{length, getD}
-use Rattle.text.specs.Range.{within}
+use Rattle.text.specs.Range.{within, every}
 use Rattle.text.specs.declared.bytes.Ordering.{Ordering}
 use Rattle.text.specs.declared.bytes.Ordering.the-variants.{Less, Equal, Greater}
 
@@ -49,6 +49,10 @@ order (a ∷ s) (b ∷ t) = cond (ltb a b) Less (cond (ltb b a) Greater (order s
 unfoldable pub firstPlace : (List ℕ → Bool) → List ℕ → ℕ
 firstPlace f [] = 0
 firstPlace f (a ∷ s) = cond (f (a ∷ s)) 0 (suc (firstPlace f s))
+
+-- s has no byte b
+abbrev pub lacks : ℕ → List ℕ → Bool
+lacks b s = every (λ (a : ℕ). not (eqb a b)) s
 
 -- the first byte of s is b
 abbrev pub headed : ℕ → List ℕ → Bool

@@ -3,14 +3,9 @@ use Prim.Native.Nat.{ℕ}
 use mathlib.Core.Bool.{Bool, _&&_}
 use mathlib.Core.List.{List}
 use lib.Dec.{eqb}
-use lib.ListN.{length}
 use Rattle.text.specs.Utf8.{utf8}
-use Rattle.text.specs.Bytes.{indexOf}
+use Rattle.text.specs.Bytes.{lacks}
 use Rattle.text.specs.White.{leading, trailing}
-
--- s has no byte b
-abbrev pub lacks : ℕ → List ℕ → Bool
-lacks b s = eqb (indexOf b s) (length s)
 
 -- refusal 4 does not meet the text
 unfoldable pub goodText : List ℕ → Bool

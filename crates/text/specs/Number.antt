@@ -1,9 +1,9 @@
 -- Numbers (document 01, 'Text rules'): an optional `+`, one or more digits, leading zeros allowed, not above the width's largest.
 use Prim.Native.Nat.{ℕ, _+_, _-_, _*_}
-use mathlib.Core.Bool.{Bool, true, cond, _&&_}
+use mathlib.Core.Bool.{Bool, cond, _&&_}
 use mathlib.Core.List.{List, [], _∷_}
 use lib.Dec.{leb, eqb}
-use Rattle.text.specs.Range.{within}
+use Rattle.text.specs.Range.{within, every}
 use Rattle.text.specs.declared.number.Number.{Number}
 use Rattle.text.specs.declared.number.Number.the-variants.{Value, Invalid}
 
@@ -13,9 +13,8 @@ value n [] = n
 value n (d ∷ s) = value (n * 10 + (d - 48)) s
 
 -- nothing but digits
-unfoldable pub digits : List ℕ → Bool
-digits [] = true
-digits (d ∷ s) = within 48 57 d && digits s
+abbrev pub digits : List ℕ → Bool
+digits s = every (within 48 57) s
 
 -- digits behind those of n
 unfoldable pub more : ℕ → ℕ → List ℕ → Number

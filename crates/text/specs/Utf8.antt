@@ -1,8 +1,9 @@
 -- UTF-8 (document 01, 'Text rules'; RFC 3629, section 4), byte by byte: a lead byte fixes how many bytes follow it and the range of the first of them.
-use Prim.Native.Nat.{ℕ, zero, suc}
+use Prim.Native.Nat.{ℕ, zero, suc, _+_}
 use mathlib.Core.Bool.{Bool, true, false, cond, _&&_}
 use mathlib.Core.List.{List, [], _∷_}
 use lib.Dec.{leb, eqb}
+use lib.ListN.{drop, getD}
 use Rattle.text.specs.Range.{within}
 use Rattle.text.specs.declared.utf8.Lead.{Lead}
 
@@ -34,3 +35,17 @@ rest (suc tail) low high (b ∷ s) = within low high b && rest tail 0x80 0xBF s
 -- a text is UTF-8
 unfoldable pub utf8 : List ℕ → Bool
 utf8 s = rest 0 0x80 0xBF s
+
+-- a byte that is a character by itself: U+0000..007F
+abbrev pub ascii : ℕ → Bool
+ascii b = leb b 0x7F
+
+-- the `tail` bytes that a character lacks stand at the front of s, the first of them in low..high
+unfoldable pub follows : ℕ → ℕ → ℕ → List ℕ → Bool
+follows zero low high s = true
+follows (suc tail) low high [] = false
+follows (suc tail) low high (b ∷ s) = within low high b && follows tail 0x80 0xBF s
+
+-- `tail` bytes follow the lead byte at place i of s, as that asks of the first of them
+abbrev pub tailed : ℕ → List ℕ → ℕ → Bool
+tailed tail s i = follows tail (leadOf (getD s i 0) .low) (leadOf (getD s i 0) .high) (drop (i + 1) s)

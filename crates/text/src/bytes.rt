@@ -1,7 +1,9 @@
 // Comparing texts and finding in them: keys ('Messages'), names ('Outbox'), the last colon and the first `://`
 // ('target_match' and 'rewrite_host'). A place that is not found is the text's length.
 ghost use mathlib.Core.Path.{_≡_};
-ghost use Rattle.text.specs.Bytes.{upper, equal, equalUpper, order, indexOf, lastIndexOf, startsWith, indexOfText};
+ghost use Prim.Native.Nat.{_+_, _≤_};
+ghost use lib.ListN.{length, drop};
+ghost use Rattle.text.specs.Bytes.{lacks, upper, equal, equalUpper, order, indexOf, lastIndexOf, startsWith, indexOfText};
 
 pub enum Ordering {
     Less,
@@ -79,11 +81,40 @@ pub fn order(s: &[u8], t: &[u8]) -> Ordering
     Ordering::Equal
 }
 
+// Whether a text has no byte `b`. The loop has no way out before the end, so that it runs over many
+// bytes at a time.
+pub fn lacks(s: &[u8], b: u8) -> bool
+    ensures { λ r. ⌜ r ≡ lacks b (now (s .entry)) ⌝ }
+{
+    let mut none = true;
+    let mut i = 0;
+    while i < s.len() {
+        none = none & (s[i] != b);
+        i += 1;
+    }
+    none
+}
+
+// A place before which there is no `b`, found by whole blocks of 8 bytes.
+fn block_before(s: &[u8], b: u8) -> usize
+    ensures { λ r. ⌜ (r ≤ length (now (s .entry))) × (indexOf b (now (s .entry)) ≡ r + indexOf b (drop r (now (s .entry)))) ⌝ }
+{
+    let mut i = 0;
+    while 8 <= s.len() - i {
+        let e = i + 8;
+        if !lacks(&s[i..e], b) {
+            return i;
+        }
+        i = e;
+    }
+    i
+}
+
 // The first place of `b`.
 pub fn find(s: &[u8], b: u8) -> usize
     ensures { λ r. ⌜ r ≡ indexOf b (now (s .entry)) ⌝ }
 {
-    let mut i = 0;
+    let mut i = block_before(s, b);
     while i < s.len() {
         if s[i] == b {
             return i;

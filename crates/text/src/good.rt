@@ -10,8 +10,8 @@ pub fn is_good(s: &[u8]) -> bool
     ensures { λ r. ⌜ r ≡ goodText (now (s .entry)) ⌝ }
 {
     utf8::is_utf8(s)
-        & (bytes::find(s, 10) == s.len())
-        & (bytes::find(s, 13) == s.len())
+        & bytes::lacks(s, 10)
+        & bytes::lacks(s, 13)
         & (white::leading_of(s) == 0)
         & (white::trailing_of(s) == 0)
 }

@@ -1,6 +1,9 @@
 // UTF-8 (document 01, 'Text rules'; RFC 3629, section 4).
 ghost use mathlib.Core.Path.{_≡_};
-ghost use Rattle.text.specs.Utf8.{leadOf, utf8};
+ghost use Prim.Native.Nat.{_<_, _≤_};
+ghost use lib.ListN.{length, drop, getD};
+ghost use Rattle.text.specs.Range.{every};
+ghost use Rattle.text.specs.Utf8.{leadOf, utf8, ascii, tailed};
 
 // What a lead byte fixes: `tail` bytes follow it, the first of them in low..=high.
 pub struct Lead {
@@ -67,33 +70,108 @@ pub fn lead_of(b: u8) -> Lead
     }
 }
 
-// Whether a text is UTF-8.
+// Whether every byte of a text is a character by itself. The loop has no way out before the end, so
+// that it runs over many bytes at a time.
+fn is_ascii(s: &[u8]) -> bool
+    ensures { λ r. ⌜ r ≡ every ascii (now (s .entry)) ⌝ }
+{
+    let mut all = true;
+    let mut i = 0;
+    while i < s.len() {
+        all = all & (s[i] <= 0x7F);
+        i += 1;
+    }
+    all
+}
+
+// A place behind the byte at `i`, which is a character by itself, up to which all bytes are.
+fn ascii_end(s: &[u8], i: usize) -> usize
+    requires { ⌜ (i < length (now s)) × (getD (now s) i 0 ≤ 0x7F) ⌝ }
+    ensures { λ r. ⌜ (i < r) × (r ≤ length (now (s .entry))) × (utf8 (drop i (now (s .entry))) ≡ utf8 (drop r (now (s .entry)))) ⌝ }
+{
+    if 16 <= s.len() - i {
+        let e = i + 16;
+        if is_ascii(&s[i..e]) {
+            return e;
+        }
+    }
+    let mut k = i + 1;
+    while k < s.len() {
+        if 0x7F < s[k] {
+            return k;
+        }
+        k += 1;
+    }
+    k
+}
+
+// Whether one byte, two or three follow the lead byte at `i`, as that asks of the first of them.
+fn has_one(s: &[u8], i: usize) -> bool
+    requires { ⌜ i < length (now s) ⌝ }
+    ensures { λ r. ⌜ r ≡ tailed 1 (now (s .entry)) i ⌝ }
+{
+    if s.len() - i < 2 {
+        return false;
+    }
+    let l = lead_of(s[i]);
+    let b = s[i + 1];
+    (l.low <= b) & (b <= l.high)
+}
+
+fn has_two(s: &[u8], i: usize) -> bool
+    requires { ⌜ i < length (now s) ⌝ }
+    ensures { λ r. ⌜ r ≡ tailed 2 (now (s .entry)) i ⌝ }
+{
+    if s.len() - i < 3 {
+        return false;
+    }
+    let b = s[i + 2];
+    has_one(s, i) & ((0x80 <= b) & (b <= 0xBF))
+}
+
+fn has_three(s: &[u8], i: usize) -> bool
+    requires { ⌜ i < length (now s) ⌝ }
+    ensures { λ r. ⌜ r ≡ tailed 3 (now (s .entry)) i ⌝ }
+{
+    if s.len() - i < 4 {
+        return false;
+    }
+    let b = s[i + 3];
+    has_two(s, i) & ((0x80 <= b) & (b <= 0xBF))
+}
+
+// Whether a text is UTF-8. Each turn passes a character, or a run of those that are one byte.
 pub fn is_utf8(s: &[u8]) -> bool
     ensures { λ r. ⌜ r ≡ utf8 (now (s .entry)) ⌝ }
 {
+    if is_ascii(s) {
+        return true;
+    }
     let mut i = 0;
-    let mut tail: u8 = 0;
-    let mut low: u8 = 0x80;
-    let mut high: u8 = 0xBF;
     while i < s.len() {
         let b = s[i];
-        if tail == 0 {
-            let l = lead_of(b);
-            tail = l.tail;
-            low = l.low;
-            high = l.high;
-        } else {
-            if b < low {
-                return false;
-            }
-            if high < b {
-                return false;
-            }
-            tail -= 1;
-            low = 0x80;
-            high = 0xBF;
+        if b <= 0x7F {
+            i = ascii_end(s, i);
+            continue;
         }
-        i += 1;
+        if b < 0xE0 {
+            if !has_one(s, i) {
+                return false;
+            }
+            i += 2;
+            continue;
+        }
+        if b < 0xF0 {
+            if !has_two(s, i) {
+                return false;
+            }
+            i += 3;
+            continue;
+        }
+        if !has_three(s, i) {
+            return false;
+        }
+        i += 4;
     }
-    tail == 0
+    true
 }

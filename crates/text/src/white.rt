@@ -1,6 +1,7 @@
 // White space, and trimming from both ends (document 01, 'Text rules').
 use crate::utf8;
 ghost use mathlib.Core.Path.{_≡_};
+ghost use mathlib.Core.Bool.{false};
 ghost use Prim.Native.Nat.{_<_, _≤_};
 ghost use mathlib.Core.List.{reverse};
 ghost use lib.ListN.{length, take, drop, getD};
@@ -70,6 +71,13 @@ fn width_of(one: bool, two: bool, three: bool) -> usize
     if three { 3 } else { 0 }
 }
 
+// The same for a byte that is a character by itself.
+fn ascii_width(a: u8) -> usize
+    ensures { λ r. ⌜ r ≡ width (whiteSpace a) false false ⌝ }
+{
+    width_of(is_white_space(a as u32), false, false)
+}
+
 // The byte at `i`, 0 past the end.
 fn byte_at(s: &[u8], i: usize) -> u8
     ensures { λ r. ⌜ r ≡ getD (now (s .entry)) i 0 ⌝ }
@@ -83,6 +91,9 @@ fn opening_at(s: &[u8], i: usize) -> usize
     ensures { λ r. ⌜ r ≡ at opening (drop i (now (s .entry))) ⌝ }
 {
     let a = s[i];
+    if a <= 0x7F {
+        return ascii_width(a);
+    }
     let b = byte_at(s, i + 1);
     let c = byte_at(s, i + 2);
     width_of(is_white1(a), is_white2(a, b), is_white3(a, b, c))
@@ -117,6 +128,9 @@ fn closing_at(s: &[u8], e: usize) -> usize
     ensures { λ r. ⌜ r ≡ at closing (reverse (take e (now (s .entry)))) ⌝ }
 {
     let c = byte_before(s, e, 0);
+    if c <= 0x7F {
+        return ascii_width(c);
+    }
     let b = byte_before(s, e, 1);
     let a = byte_before(s, e, 2);
     width_of(is_white1(c), is_white2(b, c), is_white3(a, b, c))

@@ -7,11 +7,11 @@ use Rattle.text.proofs.good.is_good.Tie as tie
 is-utf8-requires : tie.Need-is-utf8-requires
 is-utf8-requires c κs = search needs
 
-find-requires : tie.Need-find-requires
-find-requires c κs = search needs
+lacks-requires : tie.Need-lacks-requires
+lacks-requires c κs = search needs
 
-find-requires-2 : tie.Need-find-requires-2
-find-requires-2 c κs = search needs
+lacks-requires-2 : tie.Need-lacks-requires-2
+lacks-requires-2 c κs = search needs
 
 leading-of-requires : tie.Need-leading-of-requires
 leading-of-requires c κs = search needs
@@ -28,8 +28,8 @@ is-good-spec =
     tie.close
     (tie.spec
     is-utf8-requires
-    find-requires
-    find-requires-2
+    lacks-requires
+    lacks-requires-2
     leading-of-requires
     trailing-of-requires
     returns)

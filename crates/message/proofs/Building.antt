@@ -8,7 +8,8 @@ use native.Mathlib.Nat.{zero-add}
 use borrow.Author.Tests.{ltb-false, le-ltb, eq-eqb, ne-eqb}
 use lib.Dec.{eqb, ltb}
 use lib.ListN.{length, drop, length-append}
-use Rattle.text.specs.Bytes.{bytes, indexOf, firstPlace}
+use Rattle.text.specs.Bytes.{bytes}
+use Rattle.text.specs.Range.{every}
 use Rattle.text.specs.Good.{goodText}
 use Rattle.text.specs.Utf8.{utf8, rest}
 use Rattle.text.specs.White.{leading, trailing, run}
@@ -64,15 +65,33 @@ module _ (texts : List Bounded) {message buffer : List ℕ} {n k : ℕ} (answere
         ∙ sym (ap (λ (t : Bool). cond t (message ++ drop (length message) buffer) buffer) (eq-eqb n 0 z));
   }
 
--- the refusal over three texts is that over the texts that a message has, since an empty text is within its size and good
-module _ (room : ℕ) where
-  pub search-refusal : (st : List ℕ) → buildRefusal (locatedTexts st [] []) (86 + (length st + (0 + 0))) room ≡ buildRefusal (searchTexts st) (length (searchText st)) room
-  unfolding buildRefusal goodText utf8 rest indexOf firstPlace leading trailing run
-  search-refusal st = ap (λ (k : ℕ). buildRefusal (searchTexts st) k room) (omega (arith, search-length st))
+-- an empty text is good
+good-empty : goodText [] ≡ true
+unfolding goodText utf8 rest leading trailing run every
+good-empty = refl
 
-  pub byebye-refusal : (nt usn : List ℕ) → buildRefusal (locatedTexts nt usn []) (152 + (length nt + (length usn + 0))) room ≡ buildRefusal (byebyeTexts nt usn) (length (byebyeText nt usn)) room
-  unfolding buildRefusal goodText utf8 rest indexOf firstPlace leading trailing run
-  byebye-refusal nt usn = ap (λ (k : ℕ). buildRefusal (byebyeTexts nt usn) k room) (omega (arith, byebye-length nt usn))
+-- the refusal over three texts is that over the texts that a message has, since an empty one is within its size and good
+module _ (room : ℕ) where
+  one-text : (st : List ℕ) (k : ℕ) → buildRefusal (locatedTexts st [] []) k room ≡ buildRefusal (searchTexts st) k room
+  unfolding buildRefusal
+  one-text st k = rw good-empty
+
+  two-texts : (nt usn : List ℕ) (k : ℕ) → buildRefusal (locatedTexts nt usn []) k room ≡ buildRefusal (byebyeTexts nt usn) k room
+  unfolding buildRefusal
+  two-texts nt usn k = rw good-empty
+
+  pub search-refusal : (st : List ℕ)
+      → buildRefusal (locatedTexts st [] []) (86 + (length st + (0 + 0))) room ≡ buildRefusal (searchTexts st) (length (searchText st)) room
+  search-refusal st =
+      one-text st (86 + (length st + (0 + 0)))
+      ∙ ap (λ (k : ℕ). buildRefusal (searchTexts st) k room) (omega (arith, search-length st))
+
+  pub byebye-refusal : (nt usn : List ℕ)
+      → buildRefusal (locatedTexts nt usn []) (152 + (length nt + (length usn + 0))) room
+      ≡ buildRefusal (byebyeTexts nt usn) (length (byebyeText nt usn)) room
+  byebye-refusal nt usn =
+      two-texts nt usn (152 + (length nt + (length usn + 0)))
+      ∙ ap (λ (k : ℕ). buildRefusal (byebyeTexts nt usn) k room) (omega (arith, byebye-length nt usn))
 
   pub response-refusal : (st usn loc : List ℕ)
       → buildRefusal (locatedTexts st usn loc) (116 + (length st + (length usn + length loc))) room

@@ -16,7 +16,7 @@ use Rattle.text.specs.declared.lines.Line.{Line}
 use Rattle.text.specs.declared.white.Place.{Place}
 use Rattle.text.proofs.FirstLine.{Joined, joined}
 use Rattle.text.proofs.Trimming.{trimmed-inside}
-use Rattle.message.specs.Headers.{colon, hasColon, hasKey, shifted, valueOf, lineHeader, later, headerIn, headersIn, keys, keyIndex, lineKey, noEntry, entryOf}
+use Rattle.message.specs.Headers.{colon, hasColon, hasKey, shifted, valueOf, lineHeader, later, headerIn, headerFrom, headersFrom, keys, keyIndex, lineKey, noEntry, entryOf}
 use Rattle.message.specs.declared.headers.Entry.{Entry}
 use Rattle.message.specs.declared.headers.Header.{Header}
 use Rattle.message.specs.declared.headers.Header.the-variants.{Absent, At}
@@ -104,12 +104,12 @@ module _ (line : List ℕ) (at : ℕ) (latest : List Header) (six : length lates
 
 -- what the lines from `at` on hold, over the table
 abbrev pub ahead : List ℕ → ℕ → List Header → List Header
-ahead s at latest = merge (λ k. headerIn k at (lines (drop at s))) keys latest
+ahead s at latest = merge (headerFrom s at) keys latest
 
 -- before the first line
-pub begin : (s : List ℕ) (from : ℕ) → ahead s from (Absent ∷ Absent ∷ Absent ∷ Absent ∷ Absent ∷ Absent ∷ []) ≡ headersIn from (lines (drop from s))
+pub begin : (s : List ℕ) (from : ℕ) → ahead s from (Absent ∷ Absent ∷ Absent ∷ Absent ∷ Absent ∷ Absent ∷ []) ≡ headersFrom s from
 unfolding keys
-begin s from = merge-fresh (λ k. headerIn k from (lines (drop from s))) keys
+begin s from = merge-fresh (headerFrom s from) keys
 
 -- behind the last
 pub end : (s : List ℕ) (at : ℕ) (latest : List Header) → length s ≤ at → ahead s at latest ≡ latest
@@ -155,5 +155,5 @@ module _ (s : List ℕ) (at : ℕ) (room : at < length s) {rest : List ℕ} (par
   pub turn : (latest : List Header) {latest′ : List Header} → merge (λ k. lineHeader k at (take (r .len) rest)) keys latest ≡ latest′ → ahead s (at + r .next) latest′ ≡ ahead s at latest
   turn latest {latest′} e =
       sym (merge-ext step keys latest
-      ∙ merge-merge (λ k. headerIn k (at + r .next) (lines (drop (at + r .next) s))) (λ k. lineHeader k at (take (r .len) rest)) keys latest
-      ∙ ap (merge (λ k. headerIn k (at + r .next) (lines (drop (at + r .next) s))) keys) e)
+      ∙ merge-merge (headerFrom s (at + r .next)) (λ k. lineHeader k at (take (r .len) rest)) keys latest
+      ∙ ap (merge (headerFrom s (at + r .next)) keys) e)

@@ -18,8 +18,8 @@ use Rattle.text.specs.declared.number.Number.the-variants.{Value, Invalid as No
 use Rattle.text.specs.declared.white.Place.{Place}
 use Rattle.text.proofs.FirstLine.{Joined, joined}
 use Rattle.message.specs.Build.{notifyLine, responseLine, searchLine}
-use Rattle.message.specs.Headers.{header, headerIn, headersIn, afterFirst, keys}
-use Rattle.message.specs.Parse.{fieldAt, given, aliveOf, byebyeOf, notifyOf, responseOf, searchIn, searchOf, startLine, parsed}
+use Rattle.message.specs.Headers.{header, headerIn, headerFrom, headersFrom, afterFirst, keys}
+use Rattle.message.specs.Parse.{fieldAt, given, aliveOf, byebyeOf, notifyOf, responseOf, searchIn, searchOf, startLine, notifyFrom, responseFrom, searchFrom, parsed}
 use Rattle.message.specs.declared.headers.Header.{Header}
 use Rattle.message.specs.declared.headers.Header.the-variants.{Absent, At}
 use Rattle.message.specs.declared.Message.{Message}
@@ -112,6 +112,23 @@ unfolding parsed
 is-empty [] h = refl
 is-empty (b ∷ s) h = absurd (omega arith)
 
+-- the messages read from the table of headers
+module _ (s : List ℕ) (from : ℕ) {h : List Header} (table : h ≡ headersFrom s from) (d : Header) where
+  pub notify-read : {m : Message} → m ≡ notifyOf s (getD h 3 d) (getD h 0 d) (getD h 4 d) (getD h 5 d) → m ≡ notifyFrom s from
+  unfolding notifyFrom keys
+  notify-read e = e ∙ ap (λ (h : List Header). notifyOf s (getD h 3 d) (getD h 0 d) (getD h 4 d) (getD h 5 d)) table
+
+  pub response-read : {m : Message} → m ≡ responseOf (getD h 1 d) (getD h 4 d) (getD h 5 d) → m ≡ responseFrom s from
+  unfolding responseFrom keys
+  response-read e = e ∙ ap (λ (h : List Header). responseOf (getD h 1 d) (getD h 4 d) (getD h 5 d)) table
+
+  pub search-read : {m : Message} → m ≡ searchOf s (getD h 1 d) (getD h 2 d) → m ≡ searchFrom s from
+  unfolding searchFrom keys
+  search-read e = e ∙ ap (λ (h : List Header). searchOf s (getD h 1 d) (getD h 2 d)) table
+
+four : (f : Header → Header → Header → Header → Message) {a b c d a′ b′ c′ d′ : Header} → a ≡ a′ → b ≡ b′ → c ≡ c′ → d ≡ d′ → f a b c d ≡ f a′ b′ c′ d′
+four f p q r s = cc
+
 -- the message of each first line
 abbrev pub notified : List ℕ → Message
 notified s = notifyOf s (header s (bytes "NTS")) (header s (bytes "NT")) (header s (bytes "USN")) (header s (bytes "LOCATION"))
@@ -148,45 +165,35 @@ module _ (s : List ℕ) (some : length s ≡ 0 → ⊥) {u : Bool} (encoded : u 
     by-line = with-start ok (start ∙ ap (λ (x : Line). take (x .len) s) line)
 
     -- the lines behind the first give the header of each key
-    look : (key : List ℕ) → headerIn key (r .next) (lines (drop (r .next) s)) ≡ header s key
+    look : (key : List ℕ) → headerFrom s (r .next) key ≡ header s key
     unfolding header afterFirst
     look key =
         sym (ap (afterFirst key) (line-of .cut-off)
         ∙ ap (λ (n : ℕ). headerIn key n (lines (drop (r .next) s))) (length-take-le (r .next) s (line-of .inside)))
 
-    look-all : (ks : List (List ℕ)) → map (λ key. headerIn key (r .next) (lines (drop (r .next) s))) ks ≡ map (header s) ks
-    look-all [] = refl
-    look-all (k ∷ ks) =
-        ap (λ (x : Header). x ∷ map (λ key. headerIn key (r .next) (lines (drop (r .next) s))) ks) (look k)
-        ∙ ap (λ (l : List Header). header s k ∷ l) (look-all ks)
+    notified-is : notifyFrom s (r .next) ≡ notified s
+    unfolding notifyFrom
+    notified-is = four (notifyOf s) (look (bytes "NTS")) (look (bytes "NT")) (look (bytes "USN")) (look (bytes "LOCATION"))
 
-    module _ {h : List Header} (read : h ≡ headersIn (r .next) (lines (drop (r .next) s))) (d : Header) where
-      table : h ≡ map (header s) keys
-      table = read ∙ look-all keys
+    responded-is : responseFrom s (r .next) ≡ responded s
+    unfolding responseFrom
+    responded-is = four (λ a b c d. responseOf a b c) (look (bytes "ST")) (look (bytes "USN")) (look (bytes "LOCATION")) (look (bytes "ST"))
 
-      pub notified-is : {m : Message} → m ≡ notifyOf s (getD h 3 d) (getD h 0 d) (getD h 4 d) (getD h 5 d) → m ≡ notified s
-      unfolding keys
-      notified-is e = e ∙ ap (λ (h : List Header). notifyOf s (getD h 3 d) (getD h 0 d) (getD h 4 d) (getD h 5 d)) table
-
-      pub responded-is : {m : Message} → m ≡ responseOf (getD h 1 d) (getD h 4 d) (getD h 5 d) → m ≡ responded s
-      unfolding keys
-      responded-is e = e ∙ ap (λ (h : List Header). responseOf (getD h 1 d) (getD h 4 d) (getD h 5 d)) table
-
-      pub searched-is : {m : Message} → m ≡ searchOf s (getD h 1 d) (getD h 2 d) → m ≡ searched s
-      unfolding keys
-      searched-is e = e ∙ ap (λ (h : List Header). searchOf s (getD h 1 d) (getD h 2 d)) table
+    searched-is : searchFrom s (r .next) ≡ searched s
+    unfolding searchFrom
+    searched-is = four (λ a b c d. searchOf s a b) (look (bytes "ST")) (look (bytes "MX")) (look (bytes "ST")) (look (bytes "ST"))
 
     module _ {t : Bool} (a : t ≡ equal first notifyLine) where
-      pub parsed-notify : {m : Message} → t ≡ true → m ≡ notified s → m ≡ parsed s
-      parsed-notify f g = is-so _ a f g ∙ by-line
+      pub parsed-notify : {m : Message} → t ≡ true → m ≡ notifyFrom s (r .next) → m ≡ parsed s
+      parsed-notify f g = is-so _ a f (g ∙ notified-is) ∙ by-line
 
       module _ (f : t ≡ false) {v : Bool} (b : v ≡ equal first responseLine) where
-        pub parsed-response : {m : Message} → v ≡ true → m ≡ responded s → m ≡ parsed s
-        parsed-response g h = is-not _ a f (is-so _ b g h) ∙ by-line
+        pub parsed-response : {m : Message} → v ≡ true → m ≡ responseFrom s (r .next) → m ≡ parsed s
+        parsed-response g h = is-not _ a f (is-so _ b g (h ∙ responded-is)) ∙ by-line
 
         module _ (g : v ≡ false) {w : Bool} (c : w ≡ equal first searchLine) where
-          pub parsed-search : {m : Message} → w ≡ true → m ≡ searched s → m ≡ parsed s
-          parsed-search h k = is-not _ a f (is-not _ b g (is-so _ c h k)) ∙ by-line
+          pub parsed-search : {m : Message} → w ≡ true → m ≡ searchFrom s (r .next) → m ≡ parsed s
+          parsed-search h k = is-not _ a f (is-not _ b g (is-so _ c h (k ∙ searched-is))) ∙ by-line
 
           pub parsed-none : w ≡ false → Invalid ≡ parsed s
           parsed-none h = is-not _ a f (is-not _ b g (is-not _ c h refl)) ∙ by-line

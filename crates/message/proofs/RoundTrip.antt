@@ -6,10 +6,10 @@ use mathlib.Core.Option.{Option, none, some}
 use Prim.Native.Nat.{ℕ}
 use native.Mathlib.Omega.{arith}
 use lib.ListN.{length}
+use Rattle.text.specs.Bytes.{bytes, agree, upper, indexOf, firstPlace}
 use Rattle.text.specs.Range.{every}
-use Rattle.text.specs.Bytes.{bytes, agree, upper, indexOf, firstPlace, equal}
 use Rattle.text.specs.Good.{goodText}
-use Rattle.text.specs.Number.{number, unsigned, more, value, digits}
+use Rattle.text.specs.Number.{number, unsigned, more, value, max8}
 use Rattle.text.specs.Utf8.{utf8, rest, leadOf}
 use Rattle.text.specs.White.{leading, trailing, run, whiteSpace, begins}
 use Rattle.text.specs.declared.number.Number.{Number}
@@ -45,58 +45,94 @@ module _ (first : List ℕ) (start : goodText first ≡ true) {hs : List HeaderF
   by-first =
       with-start (message first hs) (message-some first start f) (sym (message-encoded first start f)) refl (sym (message-start first start f))
 
--- keys and fixed values are good texts, and no key has a colon
-sound : {k v : List ℕ} → goodText k ≡ true → indexOf 58 k ≡ length k → goodText v ≡ true → Sound (record { key = k; value = v })
-sound k c v = record { key = k; noColon = c; value = v }
+-- texts that may be keys: good ones without a colon
+record Key (k : List ℕ) : Type 0 where
+  good : goodText k ≡ true
+  noColon : indexOf 58 k ≡ length k
 
-host-sound : Sound (field "HOST" hostText)
-unfolding hostText bytes goodText utf8 rest leadOf indexOf firstPlace every leading trailing run whiteSpace begins
-host-sound = sound refl refl refl
+under : {k v : List ℕ} → Key k → goodText v ≡ true → Sound (record { key = k; value = v })
+under k v = record { key = k .good; noColon = k .noColon; value = v }
 
-age-sound : Sound (field "CACHE-CONTROL" maxAgeText)
-unfolding maxAgeText bytes goodText utf8 rest leadOf indexOf firstPlace every leading trailing run whiteSpace begins
-age-sound = sound refl refl refl
+-- the texts that do not vary are good, by computation
+record Fixed : Type 0 where
+  host : Key (bytes "HOST")
+  man : Key (bytes "MAN")
+  mx : Key (bytes "MX")
+  st : Key (bytes "ST")
+  nt : Key (bytes "NT")
+  nts : Key (bytes "NTS")
+  usn : Key (bytes "USN")
+  location : Key (bytes "LOCATION")
+  cacheControl : Key (bytes "CACHE-CONTROL")
+  server : Key (bytes "SERVER")
+  group : goodText hostText ≡ true
+  discover : goodText (bytes "\"ssdp:discover\"") ≡ true
+  five : goodText (bytes "5") ≡ true
+  seconds : number max8 (bytes "5") ≡ Value 5
+  alive : goodText (bytes "ssdp:alive") ≡ true
+  byebye : goodText (bytes "ssdp:byebye") ≡ true
+  maxAge : goodText maxAgeText ≡ true
+  product : goodText serverText ≡ true
+  notify : goodText notifyLine ≡ true
+  ok : goodText responseLine ≡ true
+  search : goodText searchLine ≡ true
+
+fixed : Fixed
+unfolding hostText maxAgeText serverText notifyLine responseLine searchLine bytes goodText utf8 rest leadOf every leading trailing run whiteSpace begins indexOf firstPlace number unsigned more value
+fixed = record {
+  host = record { good = refl; noColon = refl };
+  man = record { good = refl; noColon = refl };
+  mx = record { good = refl; noColon = refl };
+  st = record { good = refl; noColon = refl };
+  nt = record { good = refl; noColon = refl };
+  nts = record { good = refl; noColon = refl };
+  usn = record { good = refl; noColon = refl };
+  location = record { good = refl; noColon = refl };
+  cacheControl = record { good = refl; noColon = refl };
+  server = record { good = refl; noColon = refl };
+  group = refl;
+  discover = refl;
+  five = refl;
+  seconds = refl;
+  alive = refl;
+  byebye = refl;
+  maxAge = refl;
+  product = refl;
+  notify = refl;
+  ok = refl;
+  search = refl;
+}
 
 server-sound : AllSound (field "SERVER" serverText ∷ bootHeaders)
-unfolding serverText bootHeaders bytes goodText utf8 rest leadOf indexOf firstPlace every leading trailing run whiteSpace begins
-server-sound = one-more (sound refl refl refl) no-more
+unfolding bootHeaders
+server-sound = one-more (under (fixed .server) (fixed .product)) no-more
 
 search-sound : (st : List ℕ) → goodText st ≡ true → AllSound (searchHeaders st)
-unfolding searchHeaders bytes goodText utf8 rest leadOf indexOf firstPlace every leading trailing run whiteSpace begins
+unfolding searchHeaders
 search-sound st p =
-    one-more host-sound (one-more (sound refl refl refl) (one-more (sound refl refl refl) (one-more (sound refl refl p) no-more)))
+    one-more (under (fixed .host) (fixed .group))
+    (one-more (under (fixed .man) (fixed .discover)) (one-more (under (fixed .mx) (fixed .five)) (one-more (under (fixed .st) p) no-more)))
 
 response-sound : (st usn loc : List ℕ) → goodText st ≡ true → goodText usn ≡ true → goodText loc ≡ true → AllSound (responseHeaders st usn loc)
-unfolding responseHeaders bytes goodText utf8 rest leadOf indexOf firstPlace every leading trailing run whiteSpace begins
+unfolding responseHeaders
 response-sound st usn loc p q r =
-    one-more age-sound (one-more (sound refl refl p) (one-more (sound refl refl q) (one-more (sound refl refl r) server-sound)))
+    one-more (under (fixed .cacheControl) (fixed .maxAge))
+    (one-more (under (fixed .st) p) (one-more (under (fixed .usn) q) (one-more (under (fixed .location) r) server-sound)))
 
 notify-sound : (nt usn loc : List ℕ) → goodText nt ≡ true → goodText usn ≡ true → goodText loc ≡ true → AllSound (notifyHeaders nt usn loc)
-unfolding notifyHeaders bytes goodText utf8 rest leadOf indexOf firstPlace every leading trailing run whiteSpace begins
+unfolding notifyHeaders
 notify-sound nt usn loc p q r =
-    one-more host-sound
-    (one-more age-sound
-    (one-more (sound refl refl r)
-    (one-more (sound refl refl p) (one-more (sound refl refl refl) (one-more (sound refl refl q) server-sound)))))
+    one-more (under (fixed .host) (fixed .group))
+    (one-more (under (fixed .cacheControl) (fixed .maxAge))
+    (one-more (under (fixed .location) r)
+    (one-more (under (fixed .nt) p) (one-more (under (fixed .nts) (fixed .alive)) (one-more (under (fixed .usn) q) server-sound)))))
 
 byebye-sound : (nt usn : List ℕ) → goodText nt ≡ true → goodText usn ≡ true → AllSound (byebyeHeaders nt usn)
-unfolding byebyeHeaders bytes goodText utf8 rest leadOf indexOf firstPlace every leading trailing run whiteSpace begins
+unfolding byebyeHeaders
 byebye-sound nt usn p q =
-    one-more host-sound
-    (one-more age-sound (one-more (sound refl refl p) (one-more (sound refl refl refl) (one-more (sound refl refl q) server-sound))))
-
--- first lines are good texts, and differ
-notify-start : goodText notifyLine ≡ true
-unfolding notifyLine bytes goodText utf8 rest leadOf indexOf firstPlace every leading trailing run whiteSpace begins
-notify-start = refl
-
-response-start : goodText responseLine ≡ true
-unfolding responseLine bytes goodText utf8 rest leadOf indexOf firstPlace every leading trailing run whiteSpace begins
-response-start = refl
-
-search-start : goodText searchLine ≡ true
-unfolding searchLine bytes goodText utf8 rest leadOf indexOf firstPlace every leading trailing run whiteSpace begins
-search-start = refl
+    one-more (under (fixed .host) (fixed .group))
+    (one-more (under (fixed .cacheControl) (fixed .maxAge))
+    (one-more (under (fixed .nt) p) (one-more (under (fixed .nts) (fixed .byebye)) (one-more (under (fixed .usn) q) server-sound))))
 
 -- three texts, each under its own name
 three : (f : List ℕ → List ℕ → List ℕ → Content) {a b c x y z : List ℕ} → a ≡ x → b ≡ y → c ≡ z → f a b c ≡ f x y z
@@ -111,12 +147,12 @@ unfolding notifyText notifyHeaders notifyLine bootHeaders bytes agree upper
 notify-back nt usn loc p q r =
     let s : List ℕ = notifyText nt usn loc in
     let f : AllSound (notifyHeaders nt usn loc) = notify-sound nt usn loc p q r in
-    let nts = holds notifyLine notify-start f (bytes "NTS") refl in
-    let type = holds notifyLine notify-start f (bytes "NT") refl in
-    let name = holds notifyLine notify-start f (bytes "USN") refl in
-    let location = holds notifyLine notify-start f (bytes "LOCATION") refl in
+    let nts = holds notifyLine (fixed .notify) f (bytes "NTS") refl in
+    let type = holds notifyLine (fixed .notify) f (bytes "NT") refl in
+    let name = holds notifyLine (fixed .notify) f (bytes "USN") refl in
+    let location = holds notifyLine (fixed .notify) f (bytes "LOCATION") refl in
     ap (contentOf s)
-    (sym (by-first notifyLine notify-start f)
+    (sym (by-first notifyLine (fixed .notify) f)
     ∙ sym (is-alive s (header s (bytes "NT")) (header s (bytes "USN")) (header s (bytes "LOCATION")) (nts .is) (sym (nts .text)) refl refl (given3 NotifyAlive (type .is) (name .is) (location .is))))
     ∙ three trip.alive (type .text) (name .text) (location .text)
 
@@ -125,11 +161,11 @@ unfolding byebyeText byebyeHeaders notifyLine bootHeaders bytes agree upper
 byebye-back nt usn p q =
     let s : List ℕ = byebyeText nt usn in
     let f : AllSound (byebyeHeaders nt usn) = byebye-sound nt usn p q in
-    let nts = holds notifyLine notify-start f (bytes "NTS") refl in
-    let type = holds notifyLine notify-start f (bytes "NT") refl in
-    let name = holds notifyLine notify-start f (bytes "USN") refl in
+    let nts = holds notifyLine (fixed .notify) f (bytes "NTS") refl in
+    let type = holds notifyLine (fixed .notify) f (bytes "NT") refl in
+    let name = holds notifyLine (fixed .notify) f (bytes "USN") refl in
     ap (contentOf s)
-    (sym (by-first notifyLine notify-start f)
+    (sym (by-first notifyLine (fixed .notify) f)
     ∙ sym (is-byebye s (header s (bytes "NT")) (header s (bytes "USN")) (header s (bytes "LOCATION")) (nts .is) (sym (nts .text)) refl refl refl refl (given2 NotifyByeBye (type .is) (name .is))))
     ∙ two trip.byebye (type .text) (name .text)
 
@@ -138,20 +174,20 @@ unfolding responseText responseHeaders responseLine notifyLine bootHeaders bytes
 response-back st usn loc p q r =
     let s : List ℕ = responseText st usn loc in
     let f : AllSound (responseHeaders st usn loc) = response-sound st usn loc p q r in
-    let target = holds responseLine response-start f (bytes "ST") refl in
-    let name = holds responseLine response-start f (bytes "USN") refl in
-    let location = holds responseLine response-start f (bytes "LOCATION") refl in
-    ap (contentOf s) (sym (by-first responseLine response-start f) ∙ sym (given3 Response (target .is) (name .is) (location .is)))
+    let target = holds responseLine (fixed .ok) f (bytes "ST") refl in
+    let name = holds responseLine (fixed .ok) f (bytes "USN") refl in
+    let location = holds responseLine (fixed .ok) f (bytes "LOCATION") refl in
+    ap (contentOf s) (sym (by-first responseLine (fixed .ok) f) ∙ sym (given3 Response (target .is) (name .is) (location .is)))
     ∙ three trip.response (target .text) (name .text) (location .text)
 
 search-back : (st : List ℕ) → goodText st ≡ true → read (searchText st) ≡ trip.searching st 5
-unfolding searchText searchHeaders searchLine responseLine notifyLine bytes agree upper number unsigned more value every
+unfolding searchText searchHeaders searchLine responseLine notifyLine bytes agree upper
 search-back st p =
     let s : List ℕ = searchText st in
     let f : AllSound (searchHeaders st) = search-sound st p in
-    let target = holds searchLine search-start f (bytes "ST") refl in
-    let mx = holds searchLine search-start f (bytes "MX") refl in
-    ap (contentOf s) (sym (by-first searchLine search-start f) ∙ sym (is-search s (target .is) (mx .is) (sym (mx .text)) refl refl))
+    let target = holds searchLine (fixed .search) f (bytes "ST") refl in
+    let mx = holds searchLine (fixed .search) f (bytes "MX") refl in
+    ap (contentOf s) (sym (by-first searchLine (fixed .search) f) ∙ sym (is-search s (target .is) (mx .is) (sym (mx .text)) (sym (fixed .seconds)) refl))
     ∙ ap (λ (x : List ℕ). trip.searching x 5) (target .text)
 
 pub round-trip : RoundTrip

@@ -75,6 +75,9 @@ noEntry = record { key = 6; value = record { start = 0; len = 0 } }
 unfoldable pub entryOf : List ℕ → Entry
 entryOf line = cond (ltb (lineKey line) 6) (record { key = lineKey line; value = valueOf line }) noEntry
 
--- the headers of all the keys in lines that start at `at`
-abbrev pub headersIn : ℕ → List (List ℕ) → List Header
-headersIn at ls = map (λ key. headerIn key at ls) keys
+-- the header of a key in the lines from `from` on, and the headers of all the keys
+abbrev pub headerFrom : List ℕ → ℕ → List ℕ → Header
+headerFrom s from key = headerIn key from (lines (drop from s))
+
+abbrev pub headersFrom : List ℕ → ℕ → List Header
+headersFrom s from = map (headerFrom s from) keys

@@ -13,7 +13,7 @@ use Rattle.text.specs.declared.number.Number.the-variants.{Value, Invalid as No
 use Rattle.text.specs.declared.white.Place.{Place}
 use Rattle.message.specs.Refusals.{accepted, datagramEmpty, datagramInvalid}
 use Rattle.message.specs.Build.{notifyLine, responseLine, searchLine}
-use Rattle.message.specs.Headers.{header}
+use Rattle.message.specs.Headers.{header, headerFrom}
 use Rattle.message.specs.declared.headers.Header.{Header}
 use Rattle.message.specs.declared.headers.Header.the-variants.{Absent, At}
 use Rattle.message.specs.declared.Message.{Message}
@@ -72,6 +72,18 @@ parsed s =
     (cond (equal (startLine s) searchLine)
     (searchOf s (header s (bytes "ST")) (header s (bytes "MX")))
     Invalid))))
+
+-- the same messages from the headers of the lines from `from` on
+unfoldable pub notifyFrom : List ℕ → ℕ → Message
+notifyFrom s from =
+    notifyOf s (headerFrom s from (bytes "NTS")) (headerFrom s from (bytes "NT")) (headerFrom s from (bytes "USN"))
+    (headerFrom s from (bytes "LOCATION"))
+
+unfoldable pub responseFrom : List ℕ → ℕ → Message
+responseFrom s from = responseOf (headerFrom s from (bytes "ST")) (headerFrom s from (bytes "USN")) (headerFrom s from (bytes "LOCATION"))
+
+unfoldable pub searchFrom : List ℕ → ℕ → Message
+searchFrom s from = searchOf s (headerFrom s from (bytes "ST")) (headerFrom s from (bytes "MX"))
 
 -- "`parse` called alone gives only 7 and 8"
 abbrev pub parseRefusal : Message → ℕ

@@ -4,9 +4,7 @@ use text::lines;
 use text::white;
 use text::white::Place;
 ghost use mathlib.Core.Path.{_≡_};
-ghost use lib.ListN.{drop};
-ghost use Rattle.text.specs.Lines.{lines};
-ghost use Rattle.message.specs.Headers.{keys, keyIndex, noEntry, entryOf, headersIn};
+ghost use Rattle.message.specs.Headers.{keys, keyIndex, noEntry, entryOf, headersFrom};
 
 // What a datagram has under a key: nothing, or a value at its place.
 pub enum Header {
@@ -100,7 +98,7 @@ fn entry_of(line: &[u8]) -> Entry
 
 // The headers of the lines from `from` on, each at its key's place in the table.
 pub fn headers_from(s: &[u8], from: usize) -> [Header; 6]
-    ensures { λ r. ⌜ r ≡ headersIn from (lines (drop from (now (s .entry)))) ⌝ }
+    ensures { λ r. ⌜ r ≡ headersFrom (now (s .entry)) from ⌝ }
 {
     let mut latest = [Header::Absent; 6];
     let mut at = from;

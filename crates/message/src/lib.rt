@@ -14,7 +14,7 @@ use text::number::Number;
 use text::utf8;
 use text::white::Place;
 ghost use mathlib.Core.Path.{_≡_};
-ghost use Rattle.message.specs.Parse.{fieldAt, aliveOf, byebyeOf, notifyOf, responseOf, searchOf, parsed};
+ghost use Rattle.message.specs.Parse.{fieldAt, aliveOf, byebyeOf, notifyOf, responseOf, searchOf, notifyFrom, responseFrom, searchFrom, parsed};
 
 pub mod build;
 pub mod headers;
@@ -24,6 +24,9 @@ pub use build::build_byebye;
 pub use build::build_notify;
 pub use build::build_response;
 pub use build::build_search;
+
+// MX has 8 bits.
+const MX_MAX: u64 = 255;
 
 // What a datagram says, or that it is refused: Empty 7, Invalid 8.
 pub enum Message {
@@ -143,13 +146,35 @@ fn search_of(s: &[u8], st: Header, mx: Header) -> Message
     let Header::At(place) = mx else {
         return Message::Invalid;
     };
-    let Number::Value(seconds) = number::u8_of(field(s, place)) else {
+    let Number::Value(seconds) = number::up_to(field(s, place), MX_MAX) else {
         return Message::Invalid;
     };
     Message::Search {
         search_target,
         maximum_wait_sec: seconds as u8,
     }
+}
+
+// The message of each first line, from the headers of the lines from `from` on.
+fn notify_from(s: &[u8], from: usize) -> Message
+    ensures { λ r. ⌜ r ≡ notifyFrom (now (s .entry)) from ⌝ }
+{
+    let h = headers::headers_from(s, from);
+    notify_of(s, h[NTS], h[NT], h[USN], h[LOCATION])
+}
+
+fn response_from(s: &[u8], from: usize) -> Message
+    ensures { λ r. ⌜ r ≡ responseFrom (now (s .entry)) from ⌝ }
+{
+    let h = headers::headers_from(s, from);
+    response_of(h[ST], h[USN], h[LOCATION])
+}
+
+fn search_from(s: &[u8], from: usize) -> Message
+    ensures { λ r. ⌜ r ≡ searchFrom (now (s .entry)) from ⌝ }
+{
+    let h = headers::headers_from(s, from);
+    search_of(s, h[ST], h[MX])
 }
 
 // The message of a datagram. A first line of no kind needs no look at the headers.
@@ -167,16 +192,13 @@ pub fn parse(buf: &[u8]) -> Message
     let next = line.next;
     let first = &buf[..len];
     if bytes::equal(first, b"NOTIFY * HTTP/1.1") {
-        let h = headers::headers_from(buf, next);
-        return notify_of(buf, h[NTS], h[NT], h[USN], h[LOCATION]);
+        return notify_from(buf, next);
     }
     if bytes::equal(first, b"HTTP/1.1 200 OK") {
-        let h = headers::headers_from(buf, next);
-        return response_of(h[ST], h[USN], h[LOCATION]);
+        return response_from(buf, next);
     }
     if bytes::equal(first, b"M-SEARCH * HTTP/1.1") {
-        let h = headers::headers_from(buf, next);
-        return search_of(buf, h[ST], h[MX]);
+        return search_from(buf, next);
     }
     Message::Invalid
 }

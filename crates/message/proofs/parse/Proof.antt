@@ -1,10 +1,10 @@
--- `parse` meets its contract: one law for each answer, from the first line and the table of headers.
+-- `parse` meets its contract: one law for each answer, from the first line.
 use mathlib.Core.Path.{refl, sym}
 use borrow.Author.Tests.{not-true, not-false}
 use lib.Seq.{length-take-le}
 use Rattle.text.specs.Bytes.{bytes}
 use Rattle.message.specs.Build.{notifyLine, responseLine, searchLine}
-use Rattle.message.proofs.Reading.{is-empty, not-encoded, first-inside, notified-is, responded-is, searched-is, parsed-notify, parsed-response, parsed-search, parsed-none}
+use Rattle.message.proofs.Reading.{is-empty, not-encoded, first-inside, parsed-notify, parsed-response, parsed-search, parsed-none}
 use borrow.Author.Needs.{needs}
 use Rattle.message.proofs.parse.Statement.{statement}
 use Rattle.message.proofs.parse.Tie as tie
@@ -30,30 +30,14 @@ slice-aggregate-equal c = search needs
 equal-requires : tie.Need-equal-requires
 equal-requires c κs = search needs
 
-headers-from-requires : tie.Need-headers-from-requires
-headers-from-requires c κs = search needs
-
-array-copy-out-notify-of : tie.Need-array-copy-out-notify-of
-array-copy-out-notify-of c = search needs
-
-array-copy-out-notify-of-2 : tie.Need-array-copy-out-notify-of-2
-array-copy-out-notify-of-2 c = search needs
-
-array-copy-out-notify-of-3 : tie.Need-array-copy-out-notify-of-3
-array-copy-out-notify-of-3 c = search needs
-
-array-copy-out-notify-of-4 : tie.Need-array-copy-out-notify-of-4
-array-copy-out-notify-of-4 c = search needs
-
-notify-of-requires : tie.Need-notify-of-requires
-notify-of-requires c κs = search needs
+notify-from-requires : tie.Need-notify-from-requires
+notify-from-requires c κs = search needs
 
 returns-3 : tie.Need-returns-3
 unfolding bytes notifyLine responseLine searchLine
 returns-3 c =
-    parsed-notify (c .before .before .before .before .before .before .before .before .before .before .before .before .before .before .before .args .buf .now) (c .before .before .before .before .before .before .before .before .before .before .before .before .before .if1 .left) (c .before .before .before .before .before .before .before .before .before .before .before .before .is-utf8 .ensures) (not-false _ (c .before .before .before .before .before .before .before .before .before .before .before .if2 .left)) (c .before .before .before .before .before .before .before .before .before .before .first-line .ensures) refl
-    (c .before .before .before .before .before .before .before .equal .ensures) (c .before .before .before .before .before .before .if3 .taken)
-    (notified-is (c .before .before .before .before .before .before .before .before .before .before .before .before .before .before .before .args .buf .now) (c .before .before .before .before .before .before .before .before .before .before .before .before .before .if1 .left) (c .before .before .before .before .before .before .before .before .before .before .before .before .is-utf8 .ensures) (not-false _ (c .before .before .before .before .before .before .before .before .before .before .before .if2 .left)) (c .before .before .before .before .before .before .before .before .before .before .first-line .ensures) refl (c .before .before .before .before .before .headers-from .ensures) _ (c .notify-of .ensures))
+    parsed-notify (c .before .before .before .before .before .before .before .before .before .before .args .buf .now) (c .before .before .before .before .before .before .before .before .if1 .left) (c .before .before .before .before .before .before .before .is-utf8 .ensures) (not-false _ (c .before .before .before .before .before .before .if2 .left)) (c .before .before .before .before .before .first-line .ensures) refl
+    (c .before .before .equal .ensures) (c .before .if3 .taken) (c .notify-from .ensures)
 
 slice-aggregate-equal-2 : tie.Need-slice-aggregate-equal-2
 slice-aggregate-equal-2 c = search needs
@@ -61,27 +45,14 @@ slice-aggregate-equal-2 c = search needs
 equal-requires-2 : tie.Need-equal-requires-2
 equal-requires-2 c κs = search needs
 
-headers-from-requires-2 : tie.Need-headers-from-requires-2
-headers-from-requires-2 c κs = search needs
-
-array-copy-out-response-of : tie.Need-array-copy-out-response-of
-array-copy-out-response-of c = search needs
-
-array-copy-out-response-of-2 : tie.Need-array-copy-out-response-of-2
-array-copy-out-response-of-2 c = search needs
-
-array-copy-out-response-of-3 : tie.Need-array-copy-out-response-of-3
-array-copy-out-response-of-3 c = search needs
-
-response-of-requires : tie.Need-response-of-requires
-response-of-requires c κs = search needs
+response-from-requires : tie.Need-response-from-requires
+response-from-requires c κs = search needs
 
 returns-4 : tie.Need-returns-4
 unfolding bytes notifyLine responseLine searchLine
 returns-4 c =
-    parsed-response (c .before .before .before .before .before .before .before .before .before .before .before .before .before .before .before .before .before .args .buf .now) (c .before .before .before .before .before .before .before .before .before .before .before .before .before .before .before .if1 .left) (c .before .before .before .before .before .before .before .before .before .before .before .before .before .before .is-utf8 .ensures) (not-false _ (c .before .before .before .before .before .before .before .before .before .before .before .before .before .if2 .left)) (c .before .before .before .before .before .before .before .before .before .before .before .before .first-line .ensures) refl
-    (c .before .before .before .before .before .before .before .before .before .equal .ensures) (c .before .before .before .before .before .before .before .before .if3 .left) (c .before .before .before .before .before .before .equal2 .ensures) (c .before .before .before .before .before .if4 .taken)
-    (responded-is (c .before .before .before .before .before .before .before .before .before .before .before .before .before .before .before .before .before .args .buf .now) (c .before .before .before .before .before .before .before .before .before .before .before .before .before .before .before .if1 .left) (c .before .before .before .before .before .before .before .before .before .before .before .before .before .before .is-utf8 .ensures) (not-false _ (c .before .before .before .before .before .before .before .before .before .before .before .before .before .if2 .left)) (c .before .before .before .before .before .before .before .before .before .before .before .before .first-line .ensures) refl (c .before .before .before .before .headers-from2 .ensures) _ (c .response-of .ensures))
+    parsed-response (c .before .before .before .before .before .before .before .before .before .before .before .before .before .args .buf .now) (c .before .before .before .before .before .before .before .before .before .before .before .if1 .left) (c .before .before .before .before .before .before .before .before .before .before .is-utf8 .ensures) (not-false _ (c .before .before .before .before .before .before .before .before .before .if2 .left)) (c .before .before .before .before .before .before .before .before .first-line .ensures) refl
+    (c .before .before .before .before .before .equal .ensures) (c .before .before .before .before .if3 .left) (c .before .before .equal2 .ensures) (c .before .if4 .taken) (c .response-from .ensures)
 
 slice-aggregate-equal-3 : tie.Need-slice-aggregate-equal-3
 slice-aggregate-equal-3 c = search needs
@@ -89,24 +60,15 @@ slice-aggregate-equal-3 c = search needs
 equal-requires-3 : tie.Need-equal-requires-3
 equal-requires-3 c κs = search needs
 
-headers-from-requires-3 : tie.Need-headers-from-requires-3
-headers-from-requires-3 c κs = search needs
-
-array-copy-out-search-of : tie.Need-array-copy-out-search-of
-array-copy-out-search-of c = search needs
-
-array-copy-out-search-of-2 : tie.Need-array-copy-out-search-of-2
-array-copy-out-search-of-2 c = search needs
-
-search-of-requires : tie.Need-search-of-requires
-search-of-requires c κs = search needs
+search-from-requires : tie.Need-search-from-requires
+search-from-requires c κs = search needs
 
 returns-5 : tie.Need-returns-5
 unfolding bytes notifyLine responseLine searchLine
 returns-5 c =
-    parsed-search (c .before .before .before .before .before .before .before .before .before .before .before .before .before .before .before .before .before .before .before .args .buf .now) (c .before .before .before .before .before .before .before .before .before .before .before .before .before .before .before .before .before .if1 .left) (c .before .before .before .before .before .before .before .before .before .before .before .before .before .before .before .before .is-utf8 .ensures) (not-false _ (c .before .before .before .before .before .before .before .before .before .before .before .before .before .before .before .if2 .left)) (c .before .before .before .before .before .before .before .before .before .before .before .before .before .before .first-line .ensures) refl
-    (c .before .before .before .before .before .before .before .before .before .before .before .equal .ensures) (c .before .before .before .before .before .before .before .before .before .before .if3 .left) (c .before .before .before .before .before .before .before .before .equal2 .ensures) (c .before .before .before .before .before .before .before .if4 .left) (c .before .before .before .before .before .equal3 .ensures) (c .before .before .before .before .if5 .taken)
-    (searched-is (c .before .before .before .before .before .before .before .before .before .before .before .before .before .before .before .before .before .before .before .args .buf .now) (c .before .before .before .before .before .before .before .before .before .before .before .before .before .before .before .before .before .if1 .left) (c .before .before .before .before .before .before .before .before .before .before .before .before .before .before .before .before .is-utf8 .ensures) (not-false _ (c .before .before .before .before .before .before .before .before .before .before .before .before .before .before .before .if2 .left)) (c .before .before .before .before .before .before .before .before .before .before .before .before .before .before .first-line .ensures) refl (c .before .before .before .headers-from3 .ensures) _ (c .search-of .ensures))
+    parsed-search (c .before .before .before .before .before .before .before .before .before .before .before .before .before .before .before .before .args .buf .now) (c .before .before .before .before .before .before .before .before .before .before .before .before .before .before .if1 .left) (c .before .before .before .before .before .before .before .before .before .before .before .before .before .is-utf8 .ensures) (not-false _ (c .before .before .before .before .before .before .before .before .before .before .before .before .if2 .left)) (c .before .before .before .before .before .before .before .before .before .before .before .first-line .ensures) refl
+    (c .before .before .before .before .before .before .before .before .equal .ensures) (c .before .before .before .before .before .before .before .if3 .left) (c .before .before .before .before .before .equal2 .ensures) (c .before .before .before .before .if4 .left) (c .before .before .equal3 .ensures) (c .before .if5 .taken)
+    (c .search-from .ensures)
 
 returns-6 : tie.Need-returns-6
 unfolding bytes notifyLine responseLine searchLine
@@ -125,26 +87,14 @@ parse-spec =
     slice-aggregate-first
     slice-aggregate-equal
     equal-requires
-    headers-from-requires
-    array-copy-out-notify-of
-    array-copy-out-notify-of-2
-    array-copy-out-notify-of-3
-    array-copy-out-notify-of-4
-    notify-of-requires
+    notify-from-requires
     returns-3
     slice-aggregate-equal-2
     equal-requires-2
-    headers-from-requires-2
-    array-copy-out-response-of
-    array-copy-out-response-of-2
-    array-copy-out-response-of-3
-    response-of-requires
+    response-from-requires
     returns-4
     slice-aggregate-equal-3
     equal-requires-3
-    headers-from-requires-3
-    array-copy-out-search-of
-    array-copy-out-search-of-2
-    search-of-requires
+    search-from-requires
     returns-5
     returns-6)

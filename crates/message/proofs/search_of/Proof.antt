@@ -28,8 +28,8 @@ returns-2 c = search needs
 field-requires : tie.Need-field-requires
 field-requires c κs = search needs
 
-u8-of-requires : tie.Need-u8-of-requires
-u8-of-requires c κs = search needs
+up-to-requires : tie.Need-up-to-requires
+up-to-requires c κs = search needs
 
 enum-known-seconds : tie.Need-enum-known-seconds
 enum-known-seconds c = search needs
@@ -38,13 +38,13 @@ enum-told-3 : tie.Need-enum-told-3
 enum-told-3 c = search needs
 
 returns-3 : tie.Need-returns-3
-returns-3 c = is-search (c .before .before .before .before .before .before .before .before .before .before .before .args .s .now) (c .before .before .before .before .before .before .before .before .st .given .1) (c .before .before .before .before .before .mx .given .1) (c .before .before .before .field .ensures) (c .before .before .u8-of .ensures) (sym (ap (searchIn _) (c .enum-told3 .given .1)))
+returns-3 c = is-search (c .before .before .before .before .before .before .before .before .before .before .before .args .s .now) (c .before .before .before .before .before .before .before .before .st .given .1) (c .before .before .before .before .before .mx .given .1) (c .before .before .before .field .ensures) (c .before .before .up-to .ensures) (sym (ap (searchIn _) (c .enum-told3 .given .1)))
 
 cast-t9 : tie.Need-cast-t9
-cast-t9 c = omega (arith, number-most 255 _ (sym (c .before .before .before .u8-of .ensures) ∙ c .before .seconds .given .1))
+cast-t9 c = omega (arith, number-most 255 _ (sym (c .before .before .before .up-to .ensures) ∙ c .before .seconds .given .1))
 
 returns-4 : tie.Need-returns-4
-returns-4 c = is-search (c .before .before .before .before .before .before .before .before .before .before .before .before .args .s .now) (c .before .before .before .before .before .before .before .before .before .st .given .1) (c .before .before .before .before .before .before .mx .given .1) (c .before .before .before .before .field .ensures) (c .before .before .before .u8-of .ensures) (sym (ap (searchIn _) (c .before .seconds .given .1)))
+returns-4 c = is-search (c .before .before .before .before .before .before .before .before .before .before .before .before .args .s .now) (c .before .before .before .before .before .before .before .before .before .st .given .1) (c .before .before .before .before .before .before .mx .given .1) (c .before .before .before .before .field .ensures) (c .before .before .before .up-to .ensures) (sym (ap (searchIn _) (c .before .seconds .given .1)))
 
 pub search-of-spec : {M : Type 1} → statement M
 search-of-spec =
@@ -57,7 +57,7 @@ search-of-spec =
     enum-told-2
     returns-2
     field-requires
-    u8-of-requires
+    up-to-requires
     enum-known-seconds
     enum-told-3
     returns-3

@@ -1,5 +1,4 @@
 -- `build_byebye` meets its contract: refused, nothing was written; accepted, the buffer has room and the text was put over its start.
-use mathlib.Core.Path.{_∙_}
 use native.Mathlib.Omega.{arith}
 use lib.ListN.{length}
 use Rattle.message.specs.Build.{byebyeTexts}
@@ -18,7 +17,7 @@ returns : tie.Need-returns
 returns c =
     let k = c .before .before .before .before .before .before .args .notification-type .now in
     let n = c .before .before .before .before .before .before .args .unique-service-name .now in
-    refused (byebyeTexts k n) (c .before .refusal-of .ensures ∙ byebye-refusal (length (c .before .before .before .before .before .before .args .buf .now)) k n) (c .if1 .taken)
+    refused (byebyeTexts k n) (c .before .refusal-of .ensures) (byebye-refusal (length (c .before .before .before .before .before .before .args .buf .now)) k n) (c .if1 .taken)
 
 put-byebye-requires : tie.Need-put-byebye-requires
 put-byebye-requires c κs =
@@ -32,7 +31,7 @@ returns-2 : tie.Need-returns-2
 returns-2 c =
     let k = c .before .before .before .before .before .before .before .before .before .before .args .notification-type .now in
     let n = c .before .before .before .before .before .before .before .before .before .before .args .unique-service-name .now in
-    done (byebyeTexts k n) (c .before .before .before .before .before .refusal-of .ensures ∙ byebye-refusal (length (c .before .before .before .before .before .before .before .before .before .before .args .buf .now)) k n) (c .before .before .before .before .if1 .left) (c .before .before .put-byebye .ensures)
+    done (byebyeTexts k n) (c .before .before .before .before .before .refusal-of .ensures) (byebye-refusal (length (c .before .before .before .before .before .before .before .before .before .before .args .buf .now)) k n) (c .before .before .before .before .if1 .left) (c .before .before .put-byebye .ensures)
 
 pub build-byebye-spec : {M : Type 1} → statement M
 build-byebye-spec =

@@ -1,5 +1,4 @@
 -- `build_response` meets its contract: refused, nothing was written; accepted, the buffer has room and the text was put over its start.
-use mathlib.Core.Path.{_∙_}
 use native.Mathlib.Omega.{arith}
 use lib.ListN.{length}
 use Rattle.message.specs.Build.{locatedTexts}
@@ -16,7 +15,7 @@ returns c =
     let k = c .before .before .before .before .before .before .args .search-target .now in
     let n = c .before .before .before .before .before .before .args .unique-service-name .now in
     let l = c .before .before .before .before .before .before .args .location .now in
-    refused (locatedTexts k n l) (c .before .refusal-of .ensures ∙ response-refusal (length (c .before .before .before .before .before .before .args .buf .now)) k n l) (c .if1 .taken)
+    refused (locatedTexts k n l) (c .before .refusal-of .ensures) (response-refusal (length (c .before .before .before .before .before .before .args .buf .now)) k n l) (c .if1 .taken)
 
 put-response-requires : tie.Need-put-response-requires
 put-response-requires c κs =
@@ -31,7 +30,7 @@ returns-2 c =
     let k = c .before .before .before .before .before .before .before .before .before .before .args .search-target .now in
     let n = c .before .before .before .before .before .before .before .before .before .before .args .unique-service-name .now in
     let l = c .before .before .before .before .before .before .before .before .before .before .args .location .now in
-    done (locatedTexts k n l) (c .before .before .before .before .before .refusal-of .ensures ∙ response-refusal (length (c .before .before .before .before .before .before .before .before .before .before .args .buf .now)) k n l) (c .before .before .before .before .if1 .left) (c .before .before .put-response .ensures)
+    done (locatedTexts k n l) (c .before .before .before .before .before .refusal-of .ensures) (response-refusal (length (c .before .before .before .before .before .before .before .before .before .before .args .buf .now)) k n l) (c .before .before .before .before .if1 .left) (c .before .before .put-response .ensures)
 
 pub build-response-spec : {M : Type 1} → statement M
 build-response-spec =

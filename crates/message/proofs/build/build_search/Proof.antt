@@ -1,5 +1,4 @@
 -- `build_search` meets its contract: refused, nothing was written; accepted, the buffer has room and the text was put over its start.
-use mathlib.Core.Path.{_∙_}
 use native.Mathlib.Omega.{arith}
 use lib.ListN.{length}
 use Rattle.message.specs.Build.{searchTexts}
@@ -20,7 +19,7 @@ refusal-of-requires c κs = search needs
 returns : tie.Need-returns
 returns c =
     let k = c .before .before .before .before .before .before .args .search-type .now in
-    refused (searchTexts k) (c .before .refusal-of .ensures ∙ search-refusal (length (c .before .before .before .before .before .before .args .buf .now)) k) (c .if1 .taken)
+    refused (searchTexts k) (c .before .refusal-of .ensures) (search-refusal (length (c .before .before .before .before .before .before .args .buf .now)) k) (c .if1 .taken)
 
 put-search-requires : tie.Need-put-search-requires
 put-search-requires c κs =
@@ -33,7 +32,7 @@ same-length c = search needs
 returns-2 : tie.Need-returns-2
 returns-2 c =
     let k = c .before .before .before .before .before .before .before .before .before .before .args .search-type .now in
-    done (searchTexts k) (c .before .before .before .before .before .refusal-of .ensures ∙ search-refusal (length (c .before .before .before .before .before .before .before .before .before .before .args .buf .now)) k) (c .before .before .before .before .if1 .left) (c .before .before .put-search .ensures)
+    done (searchTexts k) (c .before .before .before .before .before .refusal-of .ensures) (search-refusal (length (c .before .before .before .before .before .before .before .before .before .before .args .buf .now)) k) (c .before .before .before .before .if1 .left) (c .before .before .put-search .ensures)
 
 pub build-search-spec : {M : Type 1} → statement M
 build-search-spec =

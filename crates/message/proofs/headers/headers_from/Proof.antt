@@ -3,16 +3,15 @@
 use mathlib.Core.Path.{_≡_, refl, sym, _∙_}
 use Prim.Native.Nat.{_-_}
 use native.Mathlib.Omega.{arith}
-use lib.ListN.{length, drop, length-set}
+use lib.ListN.{length, length-set}
 use lib.Seq.{length-take-le}
-use Rattle.text.specs.Lines.{lines}
-use Rattle.message.specs.Headers.{headersIn}
+use Rattle.message.specs.Headers.{headersFrom}
 use Rattle.message.proofs.Lookup.{ahead, begin, end, turn, line-short, line-inside, line-some, value-room, noted-entry, noted-other}
 use Rattle.message.proofs.headers.headers_from.Statement.{statement}
 use Rattle.message.proofs.headers.headers_from.Tie as tie
 
 abbrev Inv-loop : tie.InvT-loop
-Inv-loop s from latest₀ at₀ latest at = (length latest ≡ 6) × (ahead s at latest ≡ headersIn from (lines (drop from s)))
+Inv-loop s from latest₀ at₀ latest at = (length latest ≡ 6) × (ahead s at latest ≡ headersFrom s from)
 
 abbrev μ-loop : tie.MeasureT-loop
 μ-loop s from latest₀ at₀ latest at = length s - at

@@ -42,12 +42,13 @@ pub step-due : (t : RefreshTimer) (time : ℕ) → t .«next_salvo» ≤ time �
 unfolding timerStep
 step-due t time e = rw (le-ltb _ _ e)
 
--- the step as the code takes it
-pub stepped-to : (t : RefreshTimer) (time p : ℕ) → t .«next_salvo» ≤ time → p ≡ period (t .«random_seed») (t .phase) → record { «random_seed» = t .«random_seed»; «next_salvo» = t .«next_salvo» + p; phase = (t .phase % 4 + 1) % 4 } ≡ timerStep t time
+-- the step as the code takes it, from the instant that it has found
+pub stepped-to : (t : RefreshTimer) (time instant p : ℕ) → t .«next_salvo» ≤ time → instant ≡ t .«next_salvo» + p → p ≡ period (t .«random_seed») (t .phase)
+    → record { «random_seed» = t .«random_seed»; «next_salvo» = instant; phase = (t .phase % 4 + 1) % 4 } ≡ timerStep t time
 unfolding timerStep
-stepped-to t time p e q =
+stepped-to t time instant p e i q =
     let m : (t .phase % 4 + 1) % 4 ≡ (t .phase + 1) % 4 = omega arith in
-    rw (le-ltb _ _ e, q, m)
+    rw (le-ltb _ _ e, i, q, m)
 
 -- the answer where the timers are known by equations
 pub answer-same : (time : ℕ) {a a′ b b′ : RefreshTimer} → a ≡ a′ → b ≡ b′ → answerFor time a b ≡ answerFor time a′ b′

@@ -20,10 +20,10 @@ unfolding delay
 delay-seed seed mx = omega (arith, mod-le seed (window mx))
 
 -- the delay by the window that the code has found
-pub delay-none : (seed mx w : ℕ) → w ≡ window mx → w ≡ 0 → 10 + seed ≡ delay seed mx
+pub delay-none : (seed mx w : ℕ) → w ≡ window mx → w ≡ 0 → replyExtra + seed ≡ delay seed mx
 unfolding delay
-delay-none seed mx w e z = ap (λ (n : ℕ). 10 + n) (sym (mod-zero seed) ∙ ap (λ (n : ℕ). seed % n) (sym z ∙ e))
+delay-none seed mx w e z = ap (λ (n : ℕ). replyExtra + n) (sym (mod-zero seed) ∙ ap (λ (n : ℕ). seed % n) (sym z ∙ e))
 
-pub delay-some : (seed mx w : ℕ) → w ≡ window mx → 10 + seed % w ≡ delay seed mx
+pub delay-some : (seed mx w : ℕ) → w ≡ window mx → replyExtra + seed % w ≡ delay seed mx
 unfolding delay
-delay-some seed mx w e = ap (λ (n : ℕ). 10 + seed % n) e
+delay-some seed mx w e = ap (λ (n : ℕ). replyExtra + seed % n) e

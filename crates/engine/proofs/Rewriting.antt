@@ -3,7 +3,7 @@ use Prim.Native.Nat.{ℕ, suc, _+_, _-_, _/_, _%_, _≤_, _<_}
 use mathlib.Core.Path.{_≡_, refl, ap, sym, _∙_}
 use mathlib.Core.List.{List, [], _∷_, _++_, append-assoc, append-nil}
 use native.Mathlib.Omega.{arith}
-use mathlib.Core.Bool.{Bool, true, false, cond, _&&_, and-eq-true-iff, false≢true}
+use mathlib.Core.Bool.{Bool, true, false, cond, _&&_, and-eq-true-iff, and-false, false≢true}
 use lib.Dec.{eqb, ltb}
 use lib.ListN.{length, getD, take, drop, length-append, length-drop, take-append-drop, drop-of-length-le}
 use lib.Seq.{take-at, split-at, drop-drop, drop-cons, length-take-le}
@@ -13,7 +13,8 @@ use Rattle.text.specs.Good.{goodText}
 use Rattle.text.proofs.Finding.{indexOf-le, indexOf-found}
 use Rattle.engine.proofs.Parts.{by-cond, rest-from}
 use Rattle.engine.proofs.Splicing.{plain, Plain, plain-append, splice-end, splice-middle}
-use Rattle.engine.specs.Location.{digit, decimal, decimalDot, dotted, addressTextMax, schemeEnd, hostLength, hostStart, hostEnd, rewritten, Rewrites}
+use Rattle.engine.specs.Target.{colon}
+use Rattle.engine.specs.Location.{digit, decimal, decimalDot, dotted, addressTextMax, slash, schemeEnd, hostLength, hostStart, hostEnd, rewritten, Rewrites}
 use Rattle.text.specs.Put.{Put, overwritten}
 use Rattle.text.proofs.Writing.{text}
 
@@ -33,19 +34,24 @@ decimal-three n h =
     rw (le-ltb _ _ g, le-ltb _ _ h)
 
 -- the host by the places that the code has found
-module _ (s : List ℕ) (c d : ℕ) (colon : c ≡ indexOf 58 s) (slash : d ≡ indexOf 47 s) where
-  pub host-colon : (ltb c d && ltb d (length s)) ≡ true → c ≡ hostLength s
+module _ (s : List ℕ) (c d : ℕ) (first-colon : c ≡ indexOf colon s) (first-slash : d ≡ indexOf slash s) where
+  host-by : (t : Bool) → (ltb c d && ltb d (length s)) ≡ t → hostLength s ≡ cond t c d
   unfolding hostLength
-  host-colon e = rw (← colon, ← slash, e)
+  host-by t e = rw (← first-colon, ← first-slash, e)
 
-  pub host-slash : (ltb c d && ltb d (length s)) ≡ false → d ≡ hostLength s
-  unfolding hostLength
-  host-slash e = rw (← colon, ← slash, e)
+  pub host-slash-first : d ≤ c → d ≡ hostLength s
+  host-slash-first h = sym (host-by false (ap (λ (t : Bool). t && ltb d (length s)) (le-ltb c d h)))
+
+  pub host-no-slash : length s ≤ d → d ≡ hostLength s
+  host-no-slash h = sym (host-by false (ap (λ (t : Bool). ltb c d && t) (le-ltb d (length s) h) ∙ and-false (ltb c d)))
+
+  pub host-colon-first : c < d → d < length s → c ≡ hostLength s
+  host-colon-first h g = sym (host-by true (rw (lt-ltb c d h, lt-ltb d (length s) g)))
 
 pub host-le : (s : List ℕ) → hostLength s ≤ length s
 unfolding hostLength
 host-le s =
-    by-cond (λ (n : ℕ). n ≤ length s) (ltb (indexOf 58 s) (indexOf 47 s) && ltb (indexOf 47 s) (length s)) (indexOf-le 58 s) (indexOf-le 47 s)
+    by-cond (λ (n : ℕ). n ≤ length s) (ltb (indexOf colon s) (indexOf slash s) && ltb (indexOf slash s) (length s)) (indexOf-le 58 s) (indexOf-le 47 s)
 
 module _ (l : List ℕ) (start n : ℕ) where
   pub host-from : n ≡ hostLength (take (length l - start) (drop start l)) → start + n ≡ start + hostLength (drop start l)
@@ -164,7 +170,7 @@ AsciiAt s n = n < length s → getD s n 0 < 128
 host-ascii : (s : List ℕ) → AsciiAt s (hostLength s)
 unfolding hostLength
 host-ascii s =
-    by-cond (AsciiAt s) (ltb (indexOf 58 s) (indexOf 47 s) && ltb (indexOf 47 s) (length s))
+    by-cond (AsciiAt s) (ltb (indexOf colon s) (indexOf slash s) && ltb (indexOf slash s) (length s))
     (λ h. omega (arith, indexOf-found 58 s h)) (λ h. omega (arith, indexOf-found 47 s h))
 
 -- a location with a scheme before the second slash of `://`, and behind it

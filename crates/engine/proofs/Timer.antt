@@ -42,12 +42,13 @@ pub step-due : (t : RefreshTimer) (time : ℕ) → t .«next_salvo» ≤ time �
 unfolding timerStep
 step-due t time e = rw (le-ltb _ _ e)
 
--- the step as the code takes it
-pub stepped-to : (t : RefreshTimer) (time p : ℕ) → t .«next_salvo» ≤ time → p ≡ period (t .«random_seed») (t .phase) → record { «random_seed» = t .«random_seed»; «next_salvo» = t .«next_salvo» + p; phase = (t .phase % 4 + 1) % 4 } ≡ timerStep t time
+-- the step as the code takes it, from the instant that it has found
+pub stepped-to : (t : RefreshTimer) (time instant p : ℕ) → t .«next_salvo» ≤ time → instant ≡ t .«next_salvo» + p → p ≡ period (t .«random_seed») (t .phase)
+    → record { «random_seed» = t .«random_seed»; «next_salvo» = instant; phase = (t .phase % 4 + 1) % 4 } ≡ timerStep t time
 unfolding timerStep
-stepped-to t time p e q =
+stepped-to t time instant p e i q =
     let m : (t .phase % 4 + 1) % 4 ≡ (t .phase + 1) % 4 = omega arith in
-    rw (le-ltb _ _ e, q, m)
+    rw (le-ltb _ _ e, i, q, m)
 
 -- the answer where the timers are known by equations
 pub answer-same : (time : ℕ) {a a′ b b′ : RefreshTimer} → a ≡ a′ → b ≡ b′ → answerFor time a b ≡ answerFor time a′ b′
@@ -72,24 +73,24 @@ unfolding answerFor
 answer-twice time a b = ap (λ (t : RefreshTimer). record { refusal = timeRefusal time; timer = t }) (cond-twice (leb time timeMax) a b)
 
 -- what holds of every timer that comes from the calls: a phase of four, and an instant that one period can follow in 64 bits
-pub record Reachable (t : RefreshTimer) : Type 0 where
+pub record TimerBounds (t : RefreshTimer) : Type 0 where
   pub phase : t .phase < 4
   pub salvo : t .«next_salvo» ≤ timeMax + 802550
 
-pub new-reachable : (seed time : ℕ) → time ≤ timeMax → Reachable (timerNew seed time)
+pub new-bounds : (seed time : ℕ) → time ≤ timeMax → TimerBounds (timerNew seed time)
 unfolding timerNew
-new-reachable seed time h = record { phase = omega arith; salvo = omega arith }
+new-bounds seed time h = record { phase = omega arith; salvo = omega arith }
 
-pub reset-reachable : (t : RefreshTimer) (time : ℕ) → time ≤ timeMax → Reachable (timerReset t time)
+pub reset-bounds : (t : RefreshTimer) (time : ℕ) → time ≤ timeMax → TimerBounds (timerReset t time)
 unfolding timerReset
-reset-reachable t time h = new-reachable (t .«random_seed») time h
+reset-bounds t time h = new-bounds (t .«random_seed») time h
 
-pub step-reachable : (t : RefreshTimer) (time : ℕ) → time ≤ timeMax → Reachable t → Reachable (timerStep t time)
-step-reachable t time h r = go (ltb time (t .«next_salvo»)) refl
+pub step-bounds : (t : RefreshTimer) (time : ℕ) → time ≤ timeMax → TimerBounds t → TimerBounds (timerStep t time)
+step-bounds t time h r = go (ltb time (t .«next_salvo»)) refl
   where
-    go : (b : Bool) → ltb time (t .«next_salvo») ≡ b → Reachable (timerStep t time)
-    go true e = subst Reachable (sym (step-early t time (ltb-true _ _ e))) r
+    go : (b : Bool) → ltb time (t .«next_salvo») ≡ b → TimerBounds (timerStep t time)
+    go true e = subst TimerBounds (sym (step-early t time (ltb-true _ _ e))) r
     go false e =
         let due : t .«next_salvo» ≤ time = ltb-false _ _ e in
-        subst Reachable (sym (step-due t time due))
+        subst TimerBounds (sym (step-due t time due))
         (record { phase = omega arith; salvo = omega (arith, period-max (t .«random_seed») (t .phase)) })

@@ -59,10 +59,13 @@ fn host_length(s: &[u8]) -> usize
 {
     let colon = bytes::find(s, b':');
     let slash = bytes::find(s, b'/');
-    if (colon < slash) & (slash < s.len()) {
-        return colon;
+    if slash <= colon {
+        return slash;
     }
-    slash
+    if s.len() <= slash {
+        return slash;
+    }
+    colon
 }
 
 // Where the host that begins at `start` ends.

@@ -48,12 +48,13 @@ pub(crate) fn stepped(timer: RefreshTimer, time: u64) -> RefreshTimer
     requires { ⌜ time ≤ timeMax ⌝ }
     ensures { λ r. ⌜ r ≡ timerStep timer time ⌝ }
 {
-    if time < timer.next_salvo {
+    let due = timer.next_salvo;
+    if time < due {
         return timer;
     }
     RefreshTimer {
         random_seed: timer.random_seed,
-        next_salvo: timer.next_salvo + period_of(timer.random_seed, timer.phase),
+        next_salvo: due + period_of(timer.random_seed, timer.phase),
         phase: (timer.phase % 4 + 1) % 4,
     }
 }

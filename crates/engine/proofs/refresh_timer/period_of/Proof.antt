@@ -18,13 +18,13 @@ add-result : tie.Need-add-result
 add-result c = search needs
 
 returns : tie.Need-returns
-returns c = omega (arith, period-long (c .before .before .args .seed) (c .before .before .args .phase) (c .if1 .taken), c .before .seed-byte .ensures)
+returns c = omega (arith, period-long (c .before .before .args .seed) (c .before .before .args .phase) (omega arith), c .before .seed-byte .ensures)
 
 add-result-2 : tie.Need-add-result-2
 add-result-2 c = search needs
 
 returns-2 : tie.Need-returns-2
-returns-2 c = omega (arith, period-short (c .before .before .args .seed) (c .before .before .args .phase) (c .if1 .left), c .before .seed-byte .ensures)
+returns-2 c = omega (arith, period-short (c .before .before .args .seed) (c .before .before .args .phase) (λ e. omega (arith, c .if1 .left, e)), c .before .seed-byte .ensures)
 
 pub period-of-spec : {M : Type 1} → statement M
 period-of-spec =

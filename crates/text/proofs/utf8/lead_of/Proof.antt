@@ -1,5 +1,5 @@
 -- `utf8::lead_of`: each arm of the match is a byte, or a range over which the rule is one computed test.
-use mathlib.Core.Path.{sym, _∙_, ap}
+use mathlib.Core.Path.{_∙_}
 use mathlib.Core.Logic.{⊎-elim}
 use borrow.Author.Needs.{needs}
 use native.Mathlib.Omega.{arith}
@@ -39,20 +39,20 @@ expects-requires-10 : tie.Need-expects-requires-10
 expects-requires-10 c κs = search needs
 
 returns : tie.Need-returns
-unfolding leadOf
-returns c = c .expects .ensures ∙ ap leadOf (sym (c .before .match .keys1))
+unfolding leads leadOf
+returns c = c .expects .ensures ∙ arm 0xE0 1 (expects 2 0xA0 0xBF) tt (c .before .before .args .b) (omega arith) (omega arith)
 
 returns-2 : tie.Need-returns-2
-unfolding leadOf
-returns-2 c = c .expects2 .ensures ∙ ap leadOf (sym (c .before .match .keys2))
+unfolding leads leadOf
+returns-2 c = c .expects2 .ensures ∙ arm 0xED 1 (expects 2 0x80 0x9F) tt (c .before .before .args .b) (omega arith) (omega arith)
 
 returns-3 : tie.Need-returns-3
-unfolding leadOf
-returns-3 c = c .expects3 .ensures ∙ ap leadOf (sym (c .before .match .keys3))
+unfolding leads leadOf
+returns-3 c = c .expects3 .ensures ∙ arm 0xF0 1 (expects 3 0x90 0xBF) tt (c .before .before .args .b) (omega arith) (omega arith)
 
 returns-4 : tie.Need-returns-4
-unfolding leadOf
-returns-4 c = c .expects4 .ensures ∙ ap leadOf (sym (c .before .match .keys4))
+unfolding leads leadOf
+returns-4 c = c .expects4 .ensures ∙ arm 0xF4 1 (expects 3 0x80 0x8F) tt (c .before .before .args .b) (omega arith) (omega arith)
 
 returns-5 : tie.Need-returns-5
 unfolding leads leadOf

@@ -14,7 +14,7 @@ use Rattle.text.specs.Good.{goodText}
 use Rattle.text.specs.Utf8.{utf8, rest}
 use Rattle.text.specs.White.{leading, trailing, run}
 use Rattle.message.specs.Refusals.{accepted, textOverSize, textNotGood, bufferShort}
-use Rattle.message.specs.Put.{overwritten, Put}
+use Rattle.text.specs.Put.{overwritten, Put}
 use Rattle.message.specs.Build.{Bounded, buildRefusal, Builds, anyOverSize, anyNotGood, searchTexts, byebyeTexts, locatedTexts, searchText, responseText, notifyText, byebyeText, searchHeaders, responseHeaders, notifyHeaders, byebyeHeaders, message, headerLines, headerLine, searchLine, responseLine, notifyLine, hostText, maxAgeText, serverText, bootHeaders}
 
 -- lengths: "Bytes besides the fields: search 86, response 116, notify 163, byebye 152"

@@ -1,5 +1,4 @@
 -- Laws that belong to no one function.
-pub mod Put
 pub mod Texts
 pub mod Building
 pub mod Keys

@@ -10,12 +10,12 @@ use lib.Dec.{eqb, ltb}
 use lib.ListN.{length, take, drop, length-drop}
 use lib.Seq.{length-take-le}
 use Rattle.text.specs.Good.{goodText}
-use Rattle.message.specs.Put.{overwritten, Put}
+use Rattle.text.specs.Put.{overwritten, Put}
 use Rattle.message.specs.Build.{Bounded, atMost, typeMax, nameMax, buildLocationMax, messageMax, anyOverSize, anyNotGood, buildRefusal, Builds, searchTexts, byebyeTexts, locatedTexts, searchText, responseText, notifyText, byebyeText}
 use Rattle.message.specs.Refusals.{accepted, textOverSize, textNotGood, bufferShort}
 use Rattle.message.specs.declared.build.Built.{Built}
 use Rattle.message.proofs.Building.{search-length, response-length, notify-length, byebye-length}
-use Rattle.message.proofs.Put as puts
+use Rattle.text.proofs.Writing as puts
 
 -- "no message passes 506"
 module _ (kind name location : List ℕ) where

@@ -1,11 +1,12 @@
 // The four messages, written into a lent buffer: document 01, 'Messages' and 'Who can be turned away' (3, 4, 6).
+use text::buffer;
 use text::good;
 ghost use mathlib.Core.Path.{_≡_};
 ghost use mathlib.Core.List.{_++_};
 ghost use Prim.Native.Nat.{_+_, _≤_};
 ghost use lib.ListN.{length};
 ghost use Rattle.text.specs.Bytes.{bytes};
-ghost use Rattle.message.specs.Put.{Put};
+ghost use Rattle.text.specs.Put.{Put};
 ghost use Rattle.message.specs.Build.{Builds, buildRefusal, searchTexts, byebyeTexts, locatedTexts, searchText, responseText, notifyText, byebyeText, message, headerLine, headerLines, field, crlf, hostText, maxAgeText, serverText, bootHeaders, notifyLine};
 
 // The largest sizes of the texts that go into a message.
@@ -46,19 +47,12 @@ pub struct Built {
     pub len: usize,
 }
 
-// Writes `text` into `buf` from `at` on and answers the place behind it.
+// Writes `text`, which fits, into `buf` from `at` on and answers the place behind it.
 fn put(buf: &mut [u8], at: usize, text: &[u8]) -> usize
     requires { ⌜ at + length (now text) ≤ length (now buf) ⌝ }
     ensures { λ r. ⌜ Put (now (buf .entry)) at (now (text .entry)) (now (buf .exit)) r ⌝ }
 {
-    let mut i = 0;
-    let mut next = at;
-    while i < text.len() {
-        buf[next] = text[i];
-        next += 1;
-        i += 1;
-    }
-    next
+    buffer::put(buf, at, text)
 }
 
 // A header's line; `key` ends in its colon and blank.

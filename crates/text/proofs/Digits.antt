@@ -57,17 +57,12 @@ unfolding more every value
 digits-end max n s i h k = rw (drop-of-length-le s h, le-leb n max k)
 
 -- the sign
-pub no-text : (max : ℕ) (s : List ℕ) → length s ≡ 0 → number max s ≡ Invalid
-unfolding number
-no-text max [] h = refl
-no-text max (d ∷ s) h = absurd (omega arith)
-
 pub signed : (max : ℕ) (s t : List ℕ) → 0 < length s → getD s 0 0 ≡ 43 → t ≡ take (length s - 1) (drop 1 s) → number max s ≡ unsigned max t
 unfolding number
 signed max [] t h e p = absurd (omega arith)
 signed max (a ∷ s) t h e p = rw (eq-eqb a 43 e) (ap (unsigned max) (sym (p ∙ take-all (length (a ∷ s) - 1) s (omega arith))))
 
-pub not-signed : (max : ℕ) (s : List ℕ) → (length s ≡ 0 → ⊥) → (getD s 0 0 ≡ 43 → ⊥) → number max s ≡ unsigned max s
-unfolding number
-not-signed max [] h e = absurd (h refl)
-not-signed max (a ∷ s) h e = rw (ne-eqb a 43 e)
+pub not-signed : (max : ℕ) (s : List ℕ) → (0 < length s → getD s 0 0 ≡ 43 → ⊥) → number max s ≡ unsigned max s
+unfolding number unsigned
+not-signed max [] e = refl
+not-signed max (a ∷ s) e = rw (ne-eqb a 43 (e (omega arith)))

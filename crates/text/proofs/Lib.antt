@@ -8,3 +8,4 @@ pub mod FirstLine
 pub mod Trimming
 pub mod Digits
 pub mod GoodText
+pub mod Writing

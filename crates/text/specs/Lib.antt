@@ -6,3 +6,4 @@ pub mod White
 pub mod Number
 pub mod Bytes
 pub mod Good
+pub mod Put

@@ -42,11 +42,10 @@ fn digits_up_to(s: &[u8], max: u64) -> Number
 pub fn up_to(s: &[u8], max: u64) -> Number
     ensures { λ r. ⌜ r ≡ number max (now (s .entry)) ⌝ }
 {
-    if s.len() == 0 {
-        return Number::Invalid;
-    }
-    if s[0] == 43 {
-        return digits_up_to(&s[1..], max);
+    if 0 < s.len() {
+        if s[0] == 43 {
+            return digits_up_to(&s[1..], max);
+        }
     }
     digits_up_to(s, max)
 }

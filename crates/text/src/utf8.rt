@@ -3,7 +3,7 @@ ghost use mathlib.Core.Path.{_≡_};
 ghost use Prim.Native.Nat.{_<_, _≤_};
 ghost use lib.ListN.{length, drop, getD};
 ghost use Rattle.text.specs.Range.{every};
-ghost use Rattle.text.specs.Utf8.{leadOf, utf8, ascii, tailed};
+ghost use Rattle.text.specs.Utf8.{expects, leadOf, utf8, ascii, tailed};
 
 // What a lead byte fixes: `tail` bytes follow it, the first of them in low..=high.
 pub struct Lead {
@@ -12,61 +12,31 @@ pub struct Lead {
     pub high: u8,
 }
 
+fn expects(tail: u8, low: u8, high: u8) -> Lead
+    ensures { λ r. ⌜ r ≡ expects tail low high ⌝ }
+{
+    Lead {
+        tail: tail,
+        low: low,
+        high: high,
+    }
+}
+
 // What `b` fixes as a lead byte. One that begins no character asks for a second byte in an empty range.
 pub fn lead_of(b: u8) -> Lead
     ensures { λ r. ⌜ r ≡ leadOf b ⌝ }
 {
     match b {
-        0..=0x7F => Lead {
-            tail: 0,
-            low: 0x80,
-            high: 0xBF,
-        },
-        0xC2..=0xDF => Lead {
-            tail: 1,
-            low: 0x80,
-            high: 0xBF,
-        },
-        0xE0 => Lead {
-            tail: 2,
-            low: 0xA0,
-            high: 0xBF,
-        },
-        0xE1..=0xEC => Lead {
-            tail: 2,
-            low: 0x80,
-            high: 0xBF,
-        },
-        0xED => Lead {
-            tail: 2,
-            low: 0x80,
-            high: 0x9F,
-        },
-        0xEE..=0xEF => Lead {
-            tail: 2,
-            low: 0x80,
-            high: 0xBF,
-        },
-        0xF0 => Lead {
-            tail: 3,
-            low: 0x90,
-            high: 0xBF,
-        },
-        0xF1..=0xF3 => Lead {
-            tail: 3,
-            low: 0x80,
-            high: 0xBF,
-        },
-        0xF4 => Lead {
-            tail: 3,
-            low: 0x80,
-            high: 0x8F,
-        },
-        _ => Lead {
-            tail: 1,
-            low: 1,
-            high: 0,
-        },
+        0..=0x7F => expects(0, 0x80, 0xBF),
+        0xC2..=0xDF => expects(1, 0x80, 0xBF),
+        0xE0 => expects(2, 0xA0, 0xBF),
+        0xE1..=0xEC => expects(2, 0x80, 0xBF),
+        0xED => expects(2, 0x80, 0x9F),
+        0xEE..=0xEF => expects(2, 0x80, 0xBF),
+        0xF0 => expects(3, 0x90, 0xBF),
+        0xF1..=0xF3 => expects(3, 0x80, 0xBF),
+        0xF4 => expects(3, 0x80, 0x8F),
+        _ => expects(1, 1, 0),
     }
 }
 

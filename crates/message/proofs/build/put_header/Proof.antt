@@ -1,6 +1,6 @@
 -- `put_header` meets its contract: three texts, each right behind the one before.
 use native.Mathlib.Omega.{arith}
-use Rattle.message.proofs.Put.{behind}
+use Rattle.text.proofs.Writing.{behind}
 use borrow.Author.Needs.{needs}
 use Rattle.message.proofs.build.put_header.Statement.{statement}
 use Rattle.message.proofs.build.put_header.Tie as tie

@@ -2,7 +2,7 @@
 use native.Mathlib.Omega.{arith}
 use Rattle.text.specs.Bytes.{bytes}
 use Rattle.message.specs.Build.{headerLine, notifyLine, hostText, maxAgeText}
-use Rattle.message.proofs.Put.{_⨟_}
+use Rattle.text.proofs.Writing.{_⨟_}
 use borrow.Author.Needs.{needs}
 use Rattle.message.proofs.build.put_notify.Statement.{statement}
 use Rattle.message.proofs.build.put_notify.Tie as tie

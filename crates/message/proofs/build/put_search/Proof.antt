@@ -1,7 +1,7 @@
 -- `put_search` meets its contract: the parts of the text, each right behind the one before.
 use Rattle.text.specs.Bytes.{bytes}
 use Rattle.message.specs.Build.{headerLine, searchLine, hostText}
-use Rattle.message.proofs.Put.{_⨟_, text}
+use Rattle.text.proofs.Writing.{_⨟_, text}
 use Rattle.message.proofs.Texts.{search-row}
 use borrow.Author.Needs.{needs}
 use Rattle.message.proofs.build.put_search.Statement.{statement}

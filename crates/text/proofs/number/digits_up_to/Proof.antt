@@ -15,10 +15,10 @@ abbrev μ-loop : tie.MeasureT-loop
 μ-loop s max n₀ i₀ n i = length s - i
 
 returns : tie.Need-returns Inv-loop μ-loop
-returns c = sym (laws.no-digits (c .before .args .max) (c .before .args .s .now) (c .if1 .taken))
+returns c = sym (laws.no-digits (c .before .args .max) (c .before .args .s .now) (omega arith))
 
 loop-holds : tie.Need-loop-holds Inv-loop μ-loop
-loop-holds c = (omega arith, omega arith, laws.some-digits (c .before .args .max) (c .before .args .s .now) (c .if1 .left))
+loop-holds c = (omega arith, omega arith, laws.some-digits (c .before .args .max) (c .before .args .s .now) (λ e. omega arith))
 
 shared-slice-read-d : tie.Need-shared-slice-read-d Inv-loop μ-loop
 shared-slice-read-d c = omega arith

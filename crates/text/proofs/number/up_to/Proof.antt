@@ -1,13 +1,11 @@
--- `number::up_to`: an empty text, one that starts with a sign, and any other.
+-- `number::up_to`: a text that starts with a sign, and any other.
 use mathlib.Core.Path.{refl, sym, _∙_}
+use mathlib.Core.Logic.{⊎-elim}
 use borrow.Author.Needs.{needs}
 use native.Mathlib.Omega.{arith}
 use Rattle.text.proofs.Digits as laws
 use Rattle.text.proofs.number.up_to.Statement.{statement}
 use Rattle.text.proofs.number.up_to.Tie as tie
-
-returns : tie.Need-returns
-returns c = sym (laws.no-text (c .before .before .args .max) (c .before .before .args .s .now) (c .if1 .taken))
 
 shared-slice-read-if2 : tie.Need-shared-slice-read-if2
 shared-slice-read-if2 c = search needs
@@ -24,25 +22,26 @@ part-digits-up-to-end c = search needs
 digits-up-to-requires : tie.Need-digits-up-to-requires
 digits-up-to-requires c κs = search needs
 
-returns-2 : tie.Need-returns-2
-returns-2 c = c .digits-up-to .ensures ∙ sym (laws.signed (c .before .before .before .before .before .before .args .max) (c .before .before .before .before .before .before .args .s .now) _ (omega arith) (c .before .before .if2 .taken) refl)
+returns : tie.Need-returns
+returns c = c .digits-up-to .ensures ∙ sym (laws.signed (c .before .before .before .before .before .before .args .max) (c .before .before .before .before .before .before .args .s .now) _ (omega arith) (c .before .before .if2 .taken) refl)
 
 digits-up-to-requires-2 : tie.Need-digits-up-to-requires-2
 digits-up-to-requires-2 c κs = search needs
 
-returns-3 : tie.Need-returns-3
-returns-3 c = c .digits-up-to2 .ensures ∙ sym (laws.not-signed (c .before .before .before .before .before .args .max) (c .before .before .before .before .before .args .s .now) (c .before .before .before .if1 .left) (c .before .if2 .left))
+returns-2 : tie.Need-returns-2
+returns-2 c =
+    c .digits-up-to2 .ensures
+    ∙ sym (laws.not-signed (c .before .before .before .args .max) (c .before .before .before .args .s .now) (⊎-elim (λ w h. w .2 .left) (λ w h e. omega (arith, w .left)) (c .before .if1 .came)))
 
 pub up-to-spec : {M : Type 1} → statement M
 up-to-spec =
     tie.close
     (tie.spec
-    returns
     shared-slice-read-if2
     sub-digits-up-to
     part-digits-up-to-start
     part-digits-up-to-end
     digits-up-to-requires
-    returns-2
+    returns
     digits-up-to-requires-2
-    returns-3)
+    returns-2)

@@ -1,3 +1,4 @@
+-- The definitions of the engine, a file for each subject.
 pub mod Sizes
 pub mod RefreshTimer
 pub mod Flags

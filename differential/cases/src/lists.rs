@@ -51,7 +51,7 @@ impl List {
         let mut lines = vec![];
         if let Some(text) = self.directed.take() {
             for line in text.split_inclusive('\n') {
-                let answer = self.front.line(line.strip_suffix('\n').unwrap_or(line).as_bytes());
+                let answer = self.front.run(line.as_bytes());
                 lines.push((line.into(), answer));
             }
             return lines;
@@ -67,8 +67,8 @@ impl List {
     }
 
     fn push(&mut self, mut line: Vec<u8>, lines: &mut Vec<(Vec<u8>, String)>) {
-        let answer = self.front.line(&line);
         line.extend(if self.dice.once_in(50) { &b"\r\n"[..] } else { b"\n" });
+        let answer = self.front.run(&line);
         lines.push((line, answer));
     }
 

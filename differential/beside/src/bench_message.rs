@@ -26,15 +26,25 @@ fn main() {
         let (mut a, mut b) = ([0; 512], [0; 512]);
         let (_, length) = ours::build(kind, &mut a, &texts);
         assert_eq!(a[..length], kind.text(&texts));
-        let rust = || {
-            let [kind_text, name, location] = black_box(texts);
-            match black_box(kind) {
-                Kind::Search => message::build_search(black_box(&mut b), kind_text),
-                Kind::Response => message::build_response(black_box(&mut b), kind_text, name, location),
-                Kind::Notify => message::build_notify(black_box(&mut b), kind_text, name, location),
-                Kind::ByeBye => message::build_byebye(black_box(&mut b), kind_text, name),
-            }
-        };
-        row(&format!("build of {kind:?}"), length, || ours::build(black_box(kind), black_box(&mut a), &black_box(texts)), rust);
+        let ours = |b: &mut [u8]| ours::build(black_box(kind), black_box(b), &black_box(texts)).1;
+        let rust = |b: &mut [u8]| built_by(black_box(kind), black_box(b), black_box(texts));
+        row(&format!("build of {kind:?}"), length, || ours(&mut a), || rust(&mut b));
+        let given = &texts[..kind.sizes().len()];
+        let checked = |b: &mut [u8]| if given.iter().all(|text| is_good(black_box(text.as_bytes()))) { rust(b) } else { 0 };
+        row(&format!("build of {kind:?}, the Rust with the texts checked"), length, || ours(&mut a), || checked(&mut b));
     }
+}
+
+fn built_by(kind: Kind, b: &mut [u8], [kind_text, name, location]: [&str; 3]) -> usize {
+    match kind {
+        Kind::Search => message::build_search(b, kind_text),
+        Kind::Response => message::build_response(b, kind_text, name, location),
+        Kind::Notify => message::build_notify(b, kind_text, name, location),
+        Kind::ByeBye => message::build_byebye(b, kind_text, name),
+    }
+}
+
+/// What refusals 3 and 4 ask, which our builds check and the Rust's do not.
+fn is_good(text: &[u8]) -> bool {
+    text.len() <= 135 && std::str::from_utf8(text).is_ok_and(|t| !t.contains(['\r', '\n']) && t.trim() == t)
 }

@@ -51,7 +51,7 @@ impl List {
         let mut lines = vec![];
         if let Some(text) = self.directed.take() {
             for line in text.split_inclusive('\n') {
-                let answer = self.front.line(line.strip_suffix('\n').unwrap_or(line).as_bytes());
+                let answer = self.front.run(line.as_bytes());
                 lines.push((line.into(), answer));
             }
             return lines;
@@ -67,8 +67,8 @@ impl List {
     }
 
     fn push(&mut self, mut line: Vec<u8>, lines: &mut Vec<(Vec<u8>, String)>) {
-        let answer = self.front.line(&line);
         line.extend(if self.dice.once_in(50) { &b"\r\n"[..] } else { b"\n" });
+        let answer = self.front.run(&line);
         lines.push((line, answer));
     }
 
@@ -269,7 +269,11 @@ impl List {
             "", "\t", "refresh\t", "Refresh", " refresh", "refresh ", "new\t0\t0", "timeout", "timeout\t", "timeout\t+", "timeout\t-1",
             "timeout\t18446744073709551616", "reset\t1x", "link\t1\t4161", "link\t4294967296\t0\t0", "link\t1\t4161\t0\t0",
             "addr\t1\t10.0.0.256", "addr\t1\t10.0.0", "addr\t1\t10.0.0.1.1", "addr\t1\t10.00.0.1", "addr\t1\t10.0.0.1 ",
-            "addr\t1\t+1.0.0.1", "addr\t+1\t10.0.0.1", "deladdr\t0000000000000000000001\t10.0.0.2", "data\t1\t10.0.0.9\t1\t10.0.0.1",
+            "addr\t1\t+1.0.0.1", "addr\t1\t1.2.3.4.", "addr\t1\t1..3.4", "addr\t1\t.1.2.3", "addr\t1\t1.2.3.", "addr\t1\t0.0.0.00",
+            "addr\t1\t1.2.3.1000", "addr\t1\t", "addr\t1\t0x1.0.0.1", "timeout\t++1", "timeout\t 1", "timeout\t1 ", "timeout\t00", "timeout\t+0",
+            "hexaddr\t1\t0A0000fF", "hexaddr\t1\t0g000000", "hexaddr\t1\t0a0", "hexdata\t1\t1.2.3.4\t1\t1.2.3.4\t4E4f", "hexdata\t1\t1.2.3.4\t1\t1.2.3.4",
+            "outbox", "outbox\t+62880", "outbox\t62880\t", "NEW\t0\t0", "data", "data\t", "datax\t1\t1.2.3.4\t1\t1.2.3.4\tx",
+            "addr\t+1\t10.0.0.1", "deladdr\t0000000000000000000001\t10.0.0.2", "data\t1\t10.0.0.9\t1\t10.0.0.1",
             "data\t1\t10.0.0.9\t65536\t10.0.0.1\tx", "data\t1\t10.0.0.9\t65535\t10.0.0.1\t", "data\t1\t10.0.0.9\t1\t10.0.0.1\ta\tb|c",
             "advertise\tu\tt", "advertise\tu\tt\t/\t", "subscribe", "deadvertise", "dellink\t1", "outbox\t65537", "nonsense\t1",
         ];

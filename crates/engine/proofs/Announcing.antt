@@ -1,10 +1,8 @@
 -- A message whose texts go by other names is the same message; and which searches a refresh announces.
 use mathlib.Core.Path.{_≡_, sym, _∙_, ap}
-use mathlib.Core.Bool.{Bool, true, false, cond, _||_}
+use mathlib.Core.Bool.{Bool, true, false, cond}
 use mathlib.Core.List.{List, [], _∷_, append-nil}
-use Prim.Native.Nat.{ℕ, _+_}
-use lib.ListN.{drop}
-use Rattle.text.specs.Bytes.{equal}
+use Prim.Native.Nat.{ℕ}
 use Rattle.engine.specs.Target.{ssdpAll}
 use Rattle.engine.specs.Held.{Text}
 use Rattle.engine.specs.Records.{Record, ResponseFrom, flat, anyAll, searchesOf, searchOn}
@@ -22,21 +20,6 @@ same-texts up what {kind} {kind′} {name} {name′} {location} {location′} p 
 pub response-texts : (source : ℕ) (to : Endpoint) {kind kind′ name name′ location location′ : List ℕ} → kind ≡ kind′ → name ≡ name′ → location ≡ location′
     → _≡_ {A = List Record} (ResponseFrom source to kind name location ∷ []) (ResponseFrom source to kind′ name′ location′ ∷ [])
 response-texts source to p q r = cc
-
--- ---- whether any subscription is for all, looked for from the front: those before `i` are not
-module _ (ts : List Text) (i : ℕ) (before : anyAll ts ≡ anyAll (drop i ts)) where
-  module _ (t : Text) (here : drop i ts ≡ t ∷ drop (i + 1) ts) where
-    pub found : equal t ssdpAll ≡ true → true ≡ anyAll ts
-    unfolding anyAll
-    found e = sym (before ∙ ap anyAll here ∙ ap (λ (w : Bool). w || anyAll (drop (i + 1) ts)) e)
-
-    pub passed : equal t ssdpAll ≡ false → anyAll ts ≡ anyAll (drop (i + 1) ts)
-    unfolding anyAll
-    passed e = before ∙ ap anyAll here ∙ ap (λ (w : Bool). w || anyAll (drop (i + 1) ts)) e
-
-  pub no-more : drop i ts ≡ [] → false ≡ anyAll ts
-  unfolding anyAll
-  no-more e = sym (before ∙ ap anyAll e)
 
 -- one search for all where any subscription is for all, else one for each
 module _ (up : List ℕ) (ts : List Text) where

@@ -21,7 +21,15 @@ pub mod Reachable
 pub mod Messages
 pub mod Demand3
 pub mod EveryList
+pub mod Tables
 pub mod Slots
+pub mod Shifts
+pub mod SlotTables
+pub mod LinkTables
+pub mod Fields
+pub mod Passes
+pub mod Waits
+pub mod Masks
 pub mod Flat
 pub mod RecordSize
 pub mod Sending

@@ -9,11 +9,11 @@ use borrow.Author.Tests.{le-ltb}
 use lib.Dec.{ltb, eqb}
 use lib.ListN.{length, take, drop, set, replicate, length-append, length-drop, length-replicate, getD-replicate, take-append-drop}
 use lib.Seq.{paste, length-take-le, take-add, take-append-le, take-take, drop-append-add, drop-drop, drop-at, take-append-seam}
-use Rattle.message.specs.Put.{Put, overwritten}
+use Rattle.text.specs.Put.{Put, overwritten}
 use Rattle.message.specs.Refusals.{accepted}
 use Rattle.message.specs.Build.{Bounded, anyOverSize, anyNotGood, locatedTexts, buildRefusal, Builds}
 use Rattle.message.specs.declared.build.Built.{Built}
-use Rattle.message.proofs.Put as put
+use Rattle.text.proofs.Writing as put
 use Rattle.engine.specs.Sizes.{recordSize, headSize}
 use Rattle.engine.specs.Records.{Record, flat}
 use Rattle.engine.specs.Layout.{textsOf, textOf, messageOf, destinationOf, sourceOf, headOf, framed, recordBytes, layout, Sends}
@@ -103,16 +103,6 @@ pub zero-turn : (buffer after : List ℕ) (at n i next : ℕ) → next ≡ at + 
     → after ≡ paste buffer at (replicate n 0) i → set after next 0 ≡ paste buffer at (replicate n 0) (i + 1)
 zero-turn buffer after at n i next e h g p =
     ap (set after next) (sym (getD-replicate n i 0 0 g)) ∙ put.turn buffer after (replicate n 0) at i next e h (rw length-replicate g) p
-
--- a text written over the start of a buffer is the buffer's front
-pub front : {b t b′ : List ℕ} {r : ℕ} → Put b 0 t b′ r → take r b′ ≡ t
-unfolding overwritten
-front {b} {t} {b′} {r} p =
-    ap (λ (n : ℕ). take n b′) (p .place ∙ zero-add (length t)) ∙ ap (take (length t)) (p .written) ∙ take-append-seam t (drop (0 + length t) b)
-
-pub inside : {b t b′ : List ℕ} {r : ℕ} → Put b 0 t b′ r → r ≤ length b′
-unfolding overwritten
-inside {b} {t} {b′} {r} p = omega (arith, p .place, ap length (p .written), length-append t (drop (0 + length t) b))
 
 -- a location by another name
 pub located : {kind name url url′ buffer after : List ℕ} {answer : Built} (text : List ℕ → List ℕ) → url ≡ url′

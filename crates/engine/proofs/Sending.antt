@@ -6,8 +6,8 @@ use native.Mathlib.Omega.{arith}
 use native.Mathlib.Nat.{add-zero, zero-add}
 use lib.ListN.{length, take, drop, length-append, length-drop}
 use lib.Seq.{length-take-le}
-use Rattle.message.specs.Put.{Put, overwritten}
-use Rattle.message.proofs.Put as put
+use Rattle.text.specs.Put.{Put, overwritten}
+use Rattle.text.proofs.Writing as put
 use Rattle.engine.specs.Sizes.{recordSize, recordsMax, outboxSize}
 use Rattle.engine.specs.Records.{Record, flat}
 use Rattle.engine.specs.Layout.{recordBytes, layout, written, Room, Sends, Sent}

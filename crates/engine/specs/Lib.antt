@@ -1,6 +1,8 @@
 -- The engine's definitions, a file for each subject, in the order of document 01; the reply ledger and the claim about every list of calls stand last.
 pub mod Sizes
 pub mod Table
+pub mod Slots
+pub mod Spot
 pub mod Target
 pub mod Location
 pub mod RefreshTimer
@@ -9,12 +11,16 @@ pub mod Delay
 pub mod Held
 pub mod Calls
 pub mod Links
+pub mod LinkTable
 pub mod Records
 pub mod Announcements
 pub mod Layout
 pub mod Replies
+pub mod NameTable
+pub mod Passes
 pub mod Refusals
 pub mod Engine
+pub mod Telling
 pub mod Ledger
 pub mod Claim
 pub mod StarCases

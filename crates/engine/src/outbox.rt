@@ -7,7 +7,7 @@ ghost use mathlib.Core.Path.{_≡_};
 ghost use mathlib.Core.List.{List, [], _∷_};
 ghost use Prim.Native.Nat.{_+_, _-_, _*_, _≤_};
 ghost use lib.ListN.{length, take, drop, replicate};
-ghost use Rattle.message.specs.Put.{Put};
+ghost use Rattle.text.specs.Put.{Put};
 ghost use Rattle.engine.specs.Sizes.{recordSize, headSize, locationMax};
 ghost use Rattle.engine.specs.Records.{SearchFrom, NotifyFrom, ByeByeFrom, ResponseFrom};
 ghost use Rattle.engine.specs.Layout.{headOf, framed, Sends};

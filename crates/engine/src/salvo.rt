@@ -6,17 +6,11 @@ use crate::announce::announce_entry;
 use crate::announce::announce_on_all;
 use crate::announce::search_entry;
 use crate::clamp::least;
-use crate::field::front80;
-use crate::subscription::ActiveSearch;
 use crate::subscription::ActiveSearches;
-ghost use mathlib.Core.Path.{_≡_};
-ghost use mathlib.Core.List.{[], _∷_};
-ghost use Prim.Native.Nat.{_+_, _*_, _≤_};
-ghost use lib.ListN.{length, take};
-ghost use Rattle.text.specs.Bytes.{equal};
-ghost use Rattle.engine.specs.Target.{ssdpAll};
-ghost use Rattle.engine.specs.Held.{advertisementsOf, kindOf, subscriptionsOf};
-ghost use Rattle.engine.specs.Records.{flat, anyAll, searchesOf, searchOn, notifyOn, refreshOn, allFrom};
+use crate::subscription::any_all;
+ghost use lib.ListN.{take};
+ghost use Rattle.engine.specs.Held.{advertisementsOf, subscriptionsOf};
+ghost use Rattle.engine.specs.Records.{flat, searchesOf, searchOn, notifyOn, refreshOn, allFrom};
 ghost use Rattle.engine.specs.Layout.{Room, Sends};
 
 // Every advertisement from each of the first `n` addresses.
@@ -39,30 +33,6 @@ pub(crate) fn advertisements_on_all(
         i += 1;
     }
     at
-}
-
-// Whether a subscription is for all.
-fn is_all(s: ActiveSearch) -> bool
-    ensures { λ r. ⌜ r ≡ equal (kindOf s) ssdpAll ⌝ }
-{
-    let kind = s.kind;
-    text::bytes::equal(front80(&kind, s.kind_len), b"ssdp:all")
-}
-
-// Whether any is.
-fn any_all(t: ActiveSearches) -> bool
-    ensures { λ r. ⌜ r ≡ anyAll (subscriptionsOf t) ⌝ }
-{
-    let m = least(t.count, 4);
-    let mut i = 0;
-    while i < m {
-        let s = t.slots[i];
-        if is_all(s) {
-            return true;
-        }
-        i += 1;
-    }
-    false
 }
 
 // The search of every subscription from each of the first `n` addresses.

@@ -5,7 +5,7 @@ use Prim.Native.Nat.{ℕ, _+_, _-_, _≤_}
 use native.Mathlib.Omega.{arith}
 use lib.ListN.{length, length-set, replicate, length-replicate}
 use lib.Seq.{paste, paste-zero}
-use Rattle.message.proofs.Put as put
+use Rattle.text.proofs.Writing as put
 use Rattle.engine.proofs.OneRecord.{zero-turn}
 use Rattle.engine.proofs.outbox.clear.Statement.{statement}
 use Rattle.engine.proofs.outbox.clear.Tie as tie

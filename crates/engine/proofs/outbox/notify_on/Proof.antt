@@ -3,7 +3,7 @@ use mathlib.Core.Path.{refl, sym}
 use lib.Seq.{length-take-le}
 use Rattle.message.specs.Build.{notifyText}
 use Rattle.engine.specs.Records.{NotifyFrom}
-use Rattle.engine.proofs.OneRecord.{frame-room, sent, front, inside, located}
+use Rattle.engine.proofs.OneRecord.{frame-room, sent, located}
 use borrow.Author.Needs.{needs}
 use Rattle.engine.proofs.outbox.notify_on.Statement.{statement}
 use Rattle.engine.proofs.outbox.notify_on.Tie as tie
@@ -30,10 +30,10 @@ part-build-notify-end : tie.Need-part-build-notify-end
 part-build-notify-end c = search needs
 
 array-share-prefix-url : tie.Need-array-share-prefix-url
-array-share-prefix-url c = inside (c .before .before .rewrite-host .ensures)
+array-share-prefix-url c = c .before .before .rewrite-host .ensures .inside
 
 slice-aggregate-build-notify : tie.Need-slice-aggregate-build-notify
-slice-aggregate-build-notify c = sym (length-take-le _ _ (inside (c .before .before .before .rewrite-host .ensures)))
+slice-aggregate-build-notify c = sym (length-take-le _ _ (c .before .before .before .rewrite-host .ensures .inside))
 
 build-notify-requires : tie.Need-build-notify-requires
 build-notify-requires c κs = search needs
@@ -43,7 +43,7 @@ frame-requires c κs =
     let s = c .before .before .before .before .before .before .before .before .before .before .before .before .before in
     let a = s .args in
     frame-room (NotifyFrom (a .source) (a .kind .now) (a .name .now) (a .location .now)) (a .k) (a .outbox .now) (s .pre .0)
-    (located (notifyText (a .kind .now) (a .name .now)) (front (c .before .before .before .before .before .before .before .rewrite-host .ensures)) (c .before .before .before .build-notify .ensures)) refl
+    (located (notifyText (a .kind .now) (a .name .now)) (c .before .before .before .before .before .before .before .rewrite-host .ensures .front) (c .before .before .before .build-notify .ensures)) refl
 
 add-result : tie.Need-add-result
 add-result c = search needs
@@ -56,7 +56,7 @@ returns c =
     let s = c .before .before .before .before .before .before .before .before .before .before .before .before .before .before .before .before in
     let a = s .args in
     sent (NotifyFrom (a .source) (a .kind .now) (a .name .now) (a .location .now)) (a .k) (a .outbox .now) (s .pre .0)
-    (located (notifyText (a .kind .now) (a .name .now)) (front (c .before .before .before .before .before .before .before .before .before .before .rewrite-host .ensures)) (c .before .before .before .before .before .before .build-notify .ensures)) refl (c .before .before .frame .ensures)
+    (located (notifyText (a .kind .now) (a .name .now)) (c .before .before .before .before .before .before .before .before .before .before .rewrite-host .ensures .front) (c .before .before .before .before .before .before .build-notify .ensures)) refl (c .before .before .frame .ensures)
 
 pub notify-on-spec : {M : Type 1} → statement M
 notify-on-spec =

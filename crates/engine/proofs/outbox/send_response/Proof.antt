@@ -3,7 +3,7 @@ use mathlib.Core.Path.{refl, sym}
 use lib.Seq.{length-take-le}
 use Rattle.message.specs.Build.{responseText}
 use Rattle.engine.specs.Records.{ResponseFrom}
-use Rattle.engine.proofs.OneRecord.{frame-room, sent, front, inside, located}
+use Rattle.engine.proofs.OneRecord.{frame-room, sent, located}
 use borrow.Author.Needs.{needs}
 use Rattle.engine.proofs.outbox.send_response.Statement.{statement}
 use Rattle.engine.proofs.outbox.send_response.Tie as tie
@@ -30,10 +30,10 @@ part-build-response-end : tie.Need-part-build-response-end
 part-build-response-end c = search needs
 
 array-share-prefix-url : tie.Need-array-share-prefix-url
-array-share-prefix-url c = inside (c .before .before .rewrite-host .ensures)
+array-share-prefix-url c = c .before .before .rewrite-host .ensures .inside
 
 slice-aggregate-build-response : tie.Need-slice-aggregate-build-response
-slice-aggregate-build-response c = sym (length-take-le _ _ (inside (c .before .before .before .rewrite-host .ensures)))
+slice-aggregate-build-response c = sym (length-take-le _ _ (c .before .before .before .rewrite-host .ensures .inside))
 
 build-response-requires : tie.Need-build-response-requires
 build-response-requires c κs = search needs
@@ -43,7 +43,7 @@ frame-requires c κs =
     let s = c .before .before .before .before .before .before .before .before .before .before .before .before .before in
     let a = s .args in
     frame-room (ResponseFrom (a .source) (a .to) (a .kind .now) (a .name .now) (a .location .now)) (a .k) (a .outbox .now) (s .pre .0)
-    (located (responseText (a .kind .now) (a .name .now)) (front (c .before .before .before .before .before .before .before .rewrite-host .ensures)) (c .before .before .before .build-response .ensures)) refl
+    (located (responseText (a .kind .now) (a .name .now)) (c .before .before .before .before .before .before .before .rewrite-host .ensures .front) (c .before .before .before .build-response .ensures)) refl
 
 add-result : tie.Need-add-result
 add-result c = search needs
@@ -56,7 +56,7 @@ returns c =
     let s = c .before .before .before .before .before .before .before .before .before .before .before .before .before .before .before .before in
     let a = s .args in
     sent (ResponseFrom (a .source) (a .to) (a .kind .now) (a .name .now) (a .location .now)) (a .k) (a .outbox .now) (s .pre .0)
-    (located (responseText (a .kind .now) (a .name .now)) (front (c .before .before .before .before .before .before .before .before .before .before .rewrite-host .ensures)) (c .before .before .before .before .before .before .build-response .ensures)) refl (c .before .before .frame .ensures)
+    (located (responseText (a .kind .now) (a .name .now)) (c .before .before .before .before .before .before .before .before .before .before .rewrite-host .ensures .front) (c .before .before .before .before .before .before .build-response .ensures)) refl (c .before .before .frame .ensures)
 
 pub send-response-spec : {M : Type 1} → statement M
 send-response-spec =

@@ -1,21 +1,21 @@
--- `any_all` meets its contract. The invariant: no subscription before `i` is for all. The measure is how many are left.
+-- None of the subscriptions so far is to `ssdp:all`. The measure is what is left of the count.
 use mathlib.Core.Path.{_≡_, refl, sym, _∙_}
 use Prim.Native.Nat.{_-_, _≤_}
-use native.Mathlib.Omega.{arith}
-use borrow.Author.Needs.{needs}
 use lib.ListN.{length, drop, length-map}
 use Rattle.engine.specs.Held.{kindOf, subscriptionsOf}
 use Rattle.engine.specs.Records.{anyAll}
-use Rattle.engine.proofs.Slots.{rest-cons, rest-none}
-use Rattle.engine.proofs.Announcing.{found, passed, no-more}
-use Rattle.engine.proofs.salvo.any_all.Statement.{statement}
-use Rattle.engine.proofs.salvo.any_all.Tie as tie
+use Rattle.engine.proofs.Slots as slots
+use Rattle.engine.proofs.Masks as masks
+use borrow.Author.Needs.{needs}
+use native.Mathlib.Omega.{arith}
+use Rattle.engine.proofs.subscription.any_all.Statement.{statement}
+use Rattle.engine.proofs.subscription.any_all.Tie as tie
 
 abbrev Inv-loop : tie.InvT-loop
-Inv-loop t m i₀ i = (i ≤ m) × (anyAll (subscriptionsOf t) ≡ anyAll (drop i (subscriptionsOf t)))
+Inv-loop t n i₀ i = (i ≤ n) × (anyAll (subscriptionsOf t) ≡ anyAll (drop i (subscriptionsOf t)))
 
 abbrev μ-loop : tie.MeasureT-loop
-μ-loop t m i₀ i = m - i
+μ-loop t n i₀ i = n - i
 
 size : (s : tie.Start Inv-loop μ-loop) → length (s .args .t1 .slots) ≡ 4
 size s = sym (length-map (s .args .t1 .slots) _) ∙ s .good .0 .1 .1 .1 .0 .1 .0 .1
@@ -30,10 +30,10 @@ mul-s : tie.Need-mul-s Inv-loop μ-loop
 mul-s c = omega arith
 
 element-copy-out-s : tie.Need-element-copy-out-s Inv-loop μ-loop
-element-copy-out-s c = omega (arith, size (c .before .before .before))
+element-copy-out-s c = omega arith
 
-is-all-requires : tie.Need-is-all-requires Inv-loop μ-loop
-is-all-requires c κs = search needs
+is-to-all-requires : tie.Need-is-to-all-requires Inv-loop μ-loop
+is-to-all-requires c κs = search needs
 
 returns : tie.Need-returns Inv-loop μ-loop
 unfolding subscriptionsOf
@@ -41,9 +41,7 @@ returns c =
     let s = c .before .before .before .before .before .before in
     let g = size s in
     let h = c .before .before .before .before .loop in
-    let t = s .args .t1 in
-    let here = rest-cons kindOf (t .slots) (t .count) (h .i) _ (omega arith) in
-    found (subscriptionsOf t) (h .i) (h .inv .1) _ here (sym (c .before .is-all .ensures) ∙ c .if1 .taken)
+    masks.all-here (slots.rest-cons kindOf (s .args .t1 .slots) (s .args .t1 .count) (h .i) _ (omega arith)) (sym (c .before .is-to-all .ensures) ∙ c .if1 .taken) (h .inv .1)
 
 add-i : tie.Need-add-i Inv-loop μ-loop
 add-i c = omega arith
@@ -57,9 +55,7 @@ loop-again c =
     let s = c .before .before .before .before .before .before in
     let g = size s in
     let h = c .before .before .before .before .loop in
-    let t = s .args .t1 in
-    let here = rest-cons kindOf (t .slots) (t .count) (h .i) _ (omega arith) in
-    (omega arith, passed (subscriptionsOf t) (h .i) (h .inv .1) _ here (sym (c .before .is-all .ensures) ∙ c .if1 .left))
+    (omega arith, masks.all-later (slots.rest-cons kindOf (s .args .t1 .slots) (s .args .t1 .count) (h .i) _ (omega arith)) (sym (c .before .is-to-all .ensures) ∙ c .if1 .left) (h .inv .1))
 
 returns-2 : tie.Need-returns-2 Inv-loop μ-loop
 unfolding subscriptionsOf
@@ -67,8 +63,7 @@ returns-2 c =
     let s = c .before .before .before in
     let g = size s in
     let h = c .before .loop in
-    let t = s .args .t1 in
-    no-more (subscriptionsOf t) (h .i) (h .inv .1) (rest-none kindOf (t .slots) (t .count) (h .i) (omega arith))
+    masks.all-never (slots.rest-none kindOf (s .args .t1 .slots) (s .args .t1 .count) (h .i) (omega arith)) (h .inv .1)
 
 pub any-all-spec : {M : Type 1} → statement M
 any-all-spec =
@@ -80,7 +75,7 @@ any-all-spec =
     loop-holds
     mul-s
     element-copy-out-s
-    is-all-requires
+    is-to-all-requires
     returns
     add-i
     loop-less

@@ -1,0 +1,21 @@
+-- The bytes that are compared are the view's type.
+use mathlib.Core.Path.{_≡_, _∙_, ap}
+use Rattle.text.specs.Bytes.{equal}
+use Rattle.engine.specs.Target.{ssdpAll}
+use Rattle.engine.specs.Held.{Text, kindOf}
+use borrow.Author.Needs.{needs}
+use Rattle.engine.proofs.subscription.is_to_all.Statement.{statement}
+use Rattle.engine.proofs.subscription.is_to_all.Tie as tie
+
+front80-requires : tie.Need-front80-requires
+front80-requires c κs = search needs
+
+is-all-requires : tie.Need-is-all-requires
+is-all-requires c κs = search needs
+
+returns : tie.Need-returns
+unfolding kindOf
+returns c = c .is-all .ensures ∙ ap (λ (x : Text). equal x ssdpAll) (c .before .front80 .ensures)
+
+pub is-to-all-spec : {M : Type 1} → statement M
+is-to-all-spec = tie.close (tie.spec front80-requires is-all-requires returns)

@@ -15,3 +15,6 @@ pub mod Fields
 pub mod Passes
 pub mod Waits
 pub mod Masks
+pub mod AddressLists
+pub mod UpAddresses
+pub mod LinkNews

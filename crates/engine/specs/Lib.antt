@@ -11,6 +11,7 @@ pub mod Held
 pub mod Calls
 pub mod Links
 pub mod LinkTable
+pub mod Addresses
 pub mod Records
 pub mod Layout
 pub mod Replies

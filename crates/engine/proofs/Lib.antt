@@ -30,6 +30,9 @@ pub mod Fields
 pub mod Passes
 pub mod Waits
 pub mod Masks
+pub mod AddressLists
+pub mod UpAddresses
+pub mod LinkNews
 pub mod Flat
 pub mod RecordSize
 pub mod Sending

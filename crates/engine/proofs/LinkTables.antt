@@ -1,15 +1,16 @@
 -- The link of an index, as the table of links holds it or does not.
 use mathlib.Core.Path.{_≡_, refl, sym, _∙_, ap}
-use mathlib.Core.Bool.{Bool, true, false, _||_}
+use mathlib.Core.Bool.{Bool, true, false, not, _&&_, _||_}
 use mathlib.Core.List.{List, [], _∷_, append-nil}
 use Prim.Native.Nat.{ℕ}
 use borrow.Author.Tests.{eqb-true}
-use lib.Dec.{eqb}
+use lib.Dec.{eqb, leb}
 use lib.ListN.{length, take, getD}
 use Rattle.engine.specs.Table.{known, rank}
 use Rattle.engine.specs.Held.{Link, linkOf, byIndex}
-use Rattle.engine.specs.Links.{linkAt, anyUp, addressesOf}
+use Rattle.engine.specs.Links.{linkAt, anyUp, addressesOf, linkWith}
 use Rattle.engine.specs.LinkTable.{LinkHeld}
+use Rattle.engine.specs.declared.interface.HeldLink.{HeldLink}
 use Rattle.engine.specs.declared.interface.Interface.{Interface}
 use Rattle.engine.specs.declared.table.Spot.{Spot}
 use Rattle.engine.proofs.Slots.{entries}
@@ -39,3 +40,15 @@ module _ {l : List Interface} {m index : ℕ} {r : Spot} (s : tables.Stands byIn
   nowhere padding e =
       let h = tables.entry-none s e in
       record { known = sym e ∙ s .spot .known; same = refl; up = sym (ap anyUp h); addresses = sym (ap addressesOf h) }
+
+-- ---- the link as the definitions of news name it
+module _ {index : ℕ} {ls : List Link} {r : HeldLink} (h : LinkHeld index ls r) where
+  pub as-held : (up : Bool) (f : List ℕ → List ℕ) → linkWith (r .link .index) up (f (take (r .link .count) (r .link .addresses))) ≡ linkWith index up (f (addressesOf (linkAt index ls)))
+  as-held up f = λ i. record { index = h .same i; up = up; addresses = f (h .addresses i) }
+
+  pub as-held-up : (f : List ℕ → List ℕ) → linkWith (r .link .index) (r .link .up) (f (take (r .link .count) (r .link .addresses))) ≡ linkWith index (anyUp (linkAt index ls)) (f (addressesOf (linkAt index ls)))
+  as-held-up f = λ i. record { index = h .same i; up = h .up i; addresses = f (h .addresses i) }
+
+  -- a link that is held has room
+  pub held-room : (j most : ℕ) → j ≡ index → r .known ≡ true → (not (known byIndex j ls) && leb most (length ls)) ≡ false
+  held-room j most e k = let u : known byIndex j ls ≡ true = ap (λ (i : ℕ). known byIndex i ls) e ∙ sym (h .known) ∙ k in rw u

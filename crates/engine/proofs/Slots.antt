@@ -22,6 +22,23 @@ take-least l m = go (decLe m (length l))
 pub clamped : {A : Type 0} (l : List A) (m n : ℕ) → n ≡ min m (length l) → take n l ≡ take m l
 clamped l m n e = ap (λ (i : ℕ). take i l) e ∙ take-least l m
 
+-- ---- the first m of a list, without a view
+module _ {A : Type 0} (l : List A) (m : ℕ) where
+  pub left-none : (i : ℕ) → min m (length l) ≤ i → drop i (take m l) ≡ []
+  left-none i h = drop-of-length-le (take m l) {i = i} (rw length-take h)
+
+  pub left-cons : (i : ℕ) (d : A) → i < min m (length l) → drop i (take m l) ≡ getD l i d ∷ drop (i + 1) (take m l)
+  left-cons i d h =
+      let k : i < length (take m l) = rw length-take h in
+      drop-cons (take m l) i d k
+      ∙ ap (λ (a : A). a ∷ drop (suc i) (take m l)) (getD-take m l i d (omega arith))
+      ∙ ap (λ (j : ℕ). getD l i d ∷ drop j (take m l)) (sym (add-one i))
+
+  pub left-pushed : (n : ℕ) (a : A) → n ≡ min m (length l) → n < length l → take (n + 1) (set l n a) ≡ take m l ++ (a ∷ [])
+  left-pushed n a e h =
+      ap (λ (k : ℕ). take k (set l n a)) (add-one n) ∙ take-suc-set l n a h ∙ ap (λ (t : List A). t ++ (a ∷ [])) (clamped l m n e)
+
+-- ---- through a view
 module _ {A B : Type 0} (view : A → B) where
   pub map-append : (l m : List A) → map view (l ++ m) ≡ map view l ++ map view m
   map-append [] m = refl
@@ -56,15 +73,12 @@ module _ {A B : Type 0} (view : A → B) (l : List A) (m : ℕ) where
   entries-length = length-map (take m l) view ∙ length-take m l
 
   pub rest-none : (i : ℕ) → min m (length l) ≤ i → drop i entries ≡ []
-  rest-none i h = drop-of-length-le entries {i = i} (rw entries-length h)
+  rest-none i h = sym (map-drop view i (take m l)) ∙ ap (map view) (left-none l m i h)
 
   pub rest-cons : (i : ℕ) (d : A) → i < min m (length l) → drop i entries ≡ view (getD l i d) ∷ drop (i + 1) entries
   rest-cons i d h =
-      let k : i < length (take m l) = rw length-take h in
-      sym (map-drop view i (take m l))
-      ∙ ap (map view) (drop-cons (take m l) i d k)
-      ∙ ap (λ (a : A). view a ∷ map view (drop (suc i) (take m l))) (getD-take m l i d (omega arith))
-      ∙ ap (λ (t : List B). view (getD l i d) ∷ t) (map-drop view (suc i) (take m l) ∙ ap (λ (j : ℕ). drop j entries) (sym (add-one i)))
+      sym (map-drop view i (take m l)) ∙ ap (map view) (left-cons l m i d h)
+      ∙ ap (λ (t : List B). view (getD l i d) ∷ t) (map-drop view (i + 1) (take m l))
 
   -- the same for a loop that goes down, from i to j
   pub rest-back : (i j : ℕ) (d : A) → j + 1 ≡ i → j < min m (length l) → drop j entries ≡ view (getD l j d) ∷ drop i entries
@@ -78,10 +92,7 @@ module _ {A B : Type 0} (view : A → B) (l : List A) (m : ℕ) where
 
   -- one more behind the others
   pub pushed : (n : ℕ) (a : A) → n ≡ min m (length l) → n < length l → map view (take (n + 1) (set l n a)) ≡ entries ++ (view a ∷ [])
-  pushed n a e h =
-      ap (λ (k : ℕ). map view (take k (set l n a))) (add-one n)
-      ∙ ap (map view) (take-suc-set l n a h ∙ ap (λ (t : List A). t ++ (a ∷ [])) (clamped l m n e))
-      ∙ map-append view (take m l) (a ∷ [])
+  pushed n a e h = ap (map view) (left-pushed l m n a e h) ∙ map-append view (take m l) (a ∷ [])
 
   -- as the code has them: `n` is the lesser of the count and the array's length, `j` the count afterwards
   module _ (out : List A) (n i j : ℕ) (lesser : n ≡ min m (length l)) where

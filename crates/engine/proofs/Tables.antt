@@ -14,7 +14,7 @@ use Rattle.engine.specs.Table.{Key, rank, known, entryOf, enter, leave}
 use Rattle.engine.specs.Spot.{Spotted}
 
 -- by a test
-on : (P : Bool → Type 0) → P true → P false → (b : Bool) → P b
+pub on : (P : Bool → Type 0) → P true → P false → (b : Bool) → P b
 on P p q true = p
 on P p q false = q
 

@@ -12,6 +12,7 @@ pub mod Held
 pub mod Calls
 pub mod Links
 pub mod LinkTable
+pub mod Addresses
 pub mod Records
 pub mod Announcements
 pub mod Layout

@@ -1,4 +1,5 @@
 // The discovery engine: what is held, and the calls on it. Sockets, clock and interface news stay with the host.
+pub mod address;
 pub mod advertisement;
 mod announce;
 mod buffer;
@@ -10,11 +11,13 @@ pub mod field;
 pub mod flags;
 pub mod interface;
 mod location;
+pub mod news;
 mod outbox;
 pub mod refresh_timer;
 pub mod replies;
 mod salvo;
 mod send;
+pub mod source;
 pub mod subscription;
 pub mod table;
 mod target;

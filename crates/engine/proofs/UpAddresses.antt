@@ -1,0 +1,57 @@
+-- The addresses that messages go out from, gathered link by link: `out` are those so far, `rest` the links that are left.
+use mathlib.Core.Path.{_≡_, refl, sym, _∙_, ap}
+use mathlib.Core.Bool.{Bool, true, false, cond}
+use mathlib.Core.List.{List, [], _∷_, _++_, append-assoc, append-nil}
+use Prim.Native.Nat.{ℕ, min, _+_, _*_, _≤_, _<_}
+use native.Mathlib.Omega.{arith}
+use lib.ListN.{length, take, drop, getD}
+use Rattle.engine.specs.Held.{Link}
+use Rattle.engine.specs.Links.{upAddresses}
+use Rattle.engine.specs.Addresses.{SourcesOf}
+use Rattle.engine.specs.declared.source.Sources.{Sources}
+use Rattle.engine.proofs.Slots as slots
+
+-- ---- a link's own addresses, of which there are none, one or two
+module _ (l : List ℕ) (m : ℕ) where
+  pub none-held : min m (length l) ≡ 0 → take m l ≡ []
+  none-held e = slots.left-none l m 0 (omega arith)
+
+  pub one-held : min m (length l) ≡ 1 → take m l ≡ getD l 0 0 ∷ []
+  one-held e = slots.left-cons l m 0 0 (omega arith) ∙ ap (λ (t : List ℕ). getD l 0 0 ∷ t) (slots.left-none l m 1 (omega arith))
+
+  pub two-held : min m (length l) ≡ 2 → take m l ≡ getD l 0 0 ∷ getD l 1 0 ∷ []
+  two-held e =
+      slots.left-cons l m 0 0 (omega arith)
+      ∙ ap (λ (t : List ℕ). getD l 0 0 ∷ t) (slots.left-cons l m 1 0 (omega arith) ∙ ap (λ (t : List ℕ). getD l 1 0 ∷ t) (slots.left-none l m 2 (omega arith)))
+
+-- ---- the loop over links
+module _ (ls : List Link) where
+  pub record Gathering (i : ℕ) (rest : List Link) (out : Sources) : Type 0 where
+    pub done : take (out .count) (out .addresses) ++ upAddresses rest ≡ upAddresses ls
+    pub few : out .count ≤ 2 * i
+
+  pub gather-start : {out : Sources} → out .count ≡ 0 → Gathering 0 ls out
+  gather-start {out} e = record { done = ap (λ (k : ℕ). take k (out .addresses) ++ upAddresses ls) e; few = omega arith }
+
+  pub gather-turn : {i : ℕ} {rest more : List Link} {a : Link} {out out′ : Sources} → rest ≡ a ∷ more
+      → (take (out′ .count) (out′ .addresses) ≡ take (out .count) (out .addresses) ++ cond (a .up) (a .addresses) []) × (out′ .count ≤ out .count + 2)
+      → Gathering i rest out → Gathering (i + 1) more out′
+  unfolding upAddresses
+  gather-turn {i} {rest} {more} {a} {out} {out′} e s g = record {
+    done =
+        ap (λ (t : List ℕ). t ++ upAddresses more) (s .0)
+        ∙ append-assoc (take (out .count) (out .addresses)) (cond (a .up) (a .addresses) []) (upAddresses more)
+        ∙ ap (λ (t : List Link). take (out .count) (out .addresses) ++ upAddresses t) (sym e)
+        ∙ g .done;
+    few = omega (arith, s .1, g .few);
+  }
+
+  pub gather-over : {i : ℕ} {rest : List Link} {out : Sources} → rest ≡ [] → i ≤ 3 → Gathering i rest out → SourcesOf (upAddresses ls) out
+  unfolding upAddresses
+  gather-over {i} {rest} {out} e h g = record {
+    held =
+        sym (append-nil (take (out .count) (out .addresses)))
+        ∙ ap (λ (t : List Link). take (out .count) (out .addresses) ++ upAddresses t) (sym e)
+        ∙ g .done;
+    few = omega (arith, g .few);
+  }

@@ -1,20 +1,16 @@
--- How many records each run has, and that no call sends more than 120 (document 01, 'Outbox': "the record count, at most 120").
+-- How many records each run over the tables has (document 01, 'Outbox': "the record count, at most 120").
 use mathlib.Core.Path.{_≡_, refl, sym, _∙_, ap}
-use mathlib.Core.Bool.{Bool, true, false, cond, _&&_, _||_}
+use mathlib.Core.Bool.{Bool, true, false, cond, _||_}
 use mathlib.Core.List.{List, [], _∷_, _++_, map}
 use Prim.Native.Nat.{ℕ, suc, _+_, _*_, _≤_, min}
 use native.Mathlib.Omega.{arith}
 use native.Mathlib.Nat.{mul-le-mul, le-trans}
 use lib.ListN.{length, take, length-append, length-map, length-take}
 use Rattle.text.specs.Bytes.{equal}
-use Rattle.engine.specs.Sizes.{recordSize, recordsMax, outboxSize, advertisementsMax, subscriptionsMax, linksMax, addressesMax}
-use Rattle.engine.specs.Table.{Key, entryOf}
+use Rattle.engine.specs.Sizes.{recordsMax, advertisementsMax, subscriptionsMax, linksMax, addressesMax}
 use Rattle.engine.specs.Target.{ssdpAll}
-use Rattle.engine.specs.Held.{Text, Advertisement, Context, advertisementOf, advertisementsOf, kindOf, subscriptionsOf, advertised}
-use Rattle.engine.specs.Calls.{Call, NewLink, DeletedLink, NewAddress, DeletedAddress, Subscribe, Advertise, Deadvertise, Refresh, Datagram, Timeout, ResetTimer}
-use Rattle.engine.specs.Links.{addressesOf, anyUp, upAddresses, addressOf, linkAt, stores}
-use Rattle.engine.specs.Records.{Record, SearchFrom, NotifyFrom, flat, anyAll, searchesOf, notify, notifyOn, searchOn, byebyeOn, refreshOn, refreshRecords, allFrom, addressRecords, isDue, replyRecords, dueRecords, timeoutOn, salvoDue, turnsUp, records}
-use Rattle.engine.specs.Layout.{Room}
+use Rattle.engine.specs.Held.{Text, Advertisement, advertisementOf, advertisementsOf, kindOf, subscriptionsOf}
+use Rattle.engine.specs.Records.{Record, SearchFrom, flat, anyAll, searchesOf, notify, notifyOn, searchOn, refreshOn, allFrom, isDue, replyRecords, dueRecords, timeoutOn}
 use Rattle.engine.specs.declared.advertisement.Advertisements.{Advertisements}
 use Rattle.engine.specs.declared.subscription.ActiveSearches.{ActiveSearches}
 use Rattle.engine.specs.declared.advertisement.ResponseNeeded.{ResponseNeeded}
@@ -64,7 +60,7 @@ all-count ts as′ source =
     ∙ omega (arith, length-map (searchesOf ts) (SearchFrom source), length-map as′ (λ a. notify a source))
 
 -- where a test fails, nothing
-cond-most : {A : Type 0} (w : Bool) (l : List A) (m : ℕ) → length l ≤ m → length (cond w l []) ≤ m
+pub cond-most : {A : Type 0} (w : Bool) (l : List A) (m : ℕ) → length l ≤ m → length (cond w l []) ≤ m
 cond-most true l m h = h
 cond-most false l m h = omega arith
 
@@ -77,16 +73,6 @@ due-most m time up a one h = cond-most (isDue time (a .needed)) (replyRecords up
     go None = omega arith
     go (Multicast due) = omega (arith, length-map up (notify a))
     go (Unicast due sender receiver) = omega arith
-
--- a key has at most one entry
-entry-most : {K A : Type 0} (k : Key K A) (x : K) (l : List A) → length (entryOf k x l) ≤ 1
-unfolding entryOf
-entry-most k x [] = omega arith
-entry-most {A = A} k x (a ∷ l) = go (k .below (k .of a) x) (k .same (k .of a) x) (entry-most k x l)
-  where
-    go : (below same : Bool) → length (entryOf k x l) ≤ 1 → length (cond below (entryOf k x l) (cond same (a ∷ []) [])) ≤ 1
-    go true same h = h
-    go false same h = cond-most same (a ∷ []) 1 (omega arith)
 
 -- ---- the runs over tables of document 01's sizes
 module _ (ts : List Text) (as′ : List Advertisement) (few : length ts ≤ subscriptionsMax) (some : length as′ ≤ advertisementsMax) where
@@ -108,36 +94,3 @@ module _ (ts : List Text) (as′ : List Advertisement) (few : length ts ≤ subs
           cond-most due (refreshOn up ts as′) 72 refresh-most,
           flat-most (dueRecords time up) 6 (λ a. due-most 6 time up a (omega arith) addresses) as′,
         )
-
--- ---- every call on an engine whose tables have document 01's sizes
-pub record Small (x : Context) (as′ : List Advertisement) : Type 0 where
-  pub advertisements : length as′ ≤ advertisementsMax
-  pub subscriptions : length (x .subscriptions) ≤ subscriptionsMax
-  pub up : length (upAddresses (x .links)) ≤ linksMax * addressesMax
-  pub link : (index : ℕ) → length (addressesOf (linkAt index (x .links))) ≤ addressesMax
-
-module _ {x : Context} {as′ : List Advertisement} (small : Small x as′) where
-  abbrev on : List ℕ
-  on = upAddresses (x .links)
-
-  on-most : (f : ℕ → Record) → length (map f on) ≤ 6
-  on-most f = omega (arith, length-map on f, small .up)
-
-  pub records-most : (c : Call) → length (records x as′ c) ≤ recordsMax
-  unfolding records refreshRecords addressRecords
-  records-most (NewLink index flags outcome room) =
-      cond-most (turnsUp index flags (x .links)) _ recordsMax
-      (omega (arith, turn-most (x .subscriptions) as′ (small .subscriptions) (small .advertisements) (addressesOf (linkAt index (x .links))) (small .link index)))
-  records-most (DeletedLink index outcome) = omega arith
-  records-most (NewAddress index address room) =
-      cond-most (stores index address (x .links) && anyUp (linkAt index (x .links))) _ recordsMax
-      (omega (arith, all-most (x .subscriptions) as′ (small .subscriptions) (small .advertisements) (addressOf address)))
-  records-most (DeletedAddress index address) = omega arith
-  records-most (Subscribe kind room) = omega (arith, on-most (λ source. SearchFrom source kind))
-  records-most (Advertise name kind location room) = omega (arith, on-most (λ source. NotifyFrom source kind name location))
-  records-most (Deadvertise name room) =
-      omega (arith, flat-most (byebyeOn on) 6 (λ a. on-most _) (entryOf advertised name as′), entry-most advertised name as′)
-  records-most (Refresh room) = omega (arith, refresh-most (x .subscriptions) as′ (small .subscriptions) (small .advertisements) on (small .up))
-  records-most (Datagram time sender receiver s) = omega arith
-  records-most (Timeout time room) = timeout-most (x .subscriptions) as′ (small .subscriptions) (small .advertisements) on (small .up) (salvoDue x time) time
-  records-most (ResetTimer time) = omega arith

@@ -1,17 +1,16 @@
 -- Lists of addresses: the loop that looks for one, and the list without it, as the code has it in an array with a count.
 use mathlib.Core.Path.{_≡_, refl, sym, _∙_, ap}
-use mathlib.Core.Bool.{Bool, true, false, cond, _||_}
-use mathlib.Core.List.{List, [], _∷_, _++_, append-nil}
-use Prim.Native.Nat.{ℕ, zero, suc, min, _+_, _-_, _≤_, _<_}
+use mathlib.Core.Bool.{cond, _||_}
+use mathlib.Core.List.{List, [], _∷_}
+use Prim.Native.Nat.{ℕ, suc, min, _+_, _-_, _≤_, _<_}
 use native.Mathlib.Omega.{arith}
 use borrow.Author.Tests.{lt-ltb, le-ltb, eq-eqb, ne-eqb}
 use lib.Dec.{eqb, ltb, leb·suc-suc}
-use lib.ListN.{length, take, drop, set, getD, length-take, length-set}
-use lib.Seq.{getD-take, take-take, take-set-lt, take-all}
+use lib.ListN.{length, take, set, getD, length-take}
+use lib.Seq.{getD-take, take-take, take-set-lt}
 use Rattle.engine.specs.Links.{contains, lastInto}
 use Rattle.engine.specs.Addresses.{placeOf}
 use Rattle.engine.proofs.Tables.{on}
-use Rattle.engine.proofs.Slots as slots
 
 -- ---- the loop: `rest` is what is left of the list behind the first i, and `t` the place in the whole
 module _ (x : ℕ) where

@@ -1,9 +1,9 @@
 -- What the kernel's news makes of the links, as the code has it: the link of the index is looked up, changed and entered again.
-use mathlib.Core.Path.{_≡_, refl, sym, _∙_, ap}
-use mathlib.Core.Bool.{Bool, true, false, cond, not, _&&_}
+use mathlib.Core.Path.{_≡_, sym, _∙_, ap}
+use mathlib.Core.Bool.{Bool, true, false, not, _&&_}
 use mathlib.Core.List.{List, [], _∷_, _++_}
 use Prim.Native.Nat.{ℕ}
-use lib.Dec.{eqb, leb}
+use lib.Dec.{leb}
 use lib.ListN.{length, take}
 use Rattle.engine.specs.Sizes.{linksMax, addressesMax}
 use Rattle.engine.specs.Flags.{isUp, isMulticast}

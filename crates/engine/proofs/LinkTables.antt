@@ -1,12 +1,12 @@
 -- The link of an index, as the table of links holds it or does not.
 use mathlib.Core.Path.{_≡_, refl, sym, _∙_, ap}
 use mathlib.Core.Bool.{Bool, true, false, not, _&&_, _||_}
-use mathlib.Core.List.{List, [], _∷_, append-nil}
+use mathlib.Core.List.{List, append-nil}
 use Prim.Native.Nat.{ℕ}
 use borrow.Author.Tests.{eqb-true}
-use lib.Dec.{eqb, leb}
+use lib.Dec.{leb}
 use lib.ListN.{length, take, getD}
-use Rattle.engine.specs.Table.{known, rank}
+use Rattle.engine.specs.Table.{known}
 use Rattle.engine.specs.Held.{Link, linkOf, byIndex}
 use Rattle.engine.specs.Links.{linkAt, anyUp, addressesOf, linkWith}
 use Rattle.engine.specs.LinkTable.{LinkHeld}

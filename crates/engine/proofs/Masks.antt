@@ -1,9 +1,9 @@
 -- Loops over subscriptions: whether any is to `ssdp:all`, and the mask, which is built from the last subscription to the first. The count of the mask's ones is
 -- the number of subscriptions that match (document 01, 'Engine and ledger': "the number told is the count of its ones").
 use mathlib.Core.Path.{_≡_, refl, sym, _∙_, ap}
-use mathlib.Core.Bool.{Bool, true, false, _||_}
+use mathlib.Core.Bool.{Bool, true, false}
 use mathlib.Core.List.{List, [], _∷_}
-use Prim.Native.Nat.{ℕ, zero, suc, _+_, _*_, _/_, _%_, _^_, _≤_, _<_}
+use Prim.Native.Nat.{ℕ, _+_, _*_, _/_, _%_, _^_, _≤_, _<_}
 use native.Mathlib.Nat.{pow-suc}
 use native.Mathlib.Omega.{arith}
 use lib.Count.{ones, ones-step}

@@ -1,10 +1,10 @@
 -- A pass over a table by a loop: `rest` is what is left of the entries behind the first i. A sum, the least instant, and a table of which each entry is replaced.
 use mathlib.Core.Path.{_≡_, refl, sym, _∙_, ap}
 use mathlib.Core.List.{List, [], _∷_, _++_, map, append-assoc, append-nil}
-use Prim.Native.Nat.{ℕ, suc, _+_, _≤_, _<_}
+use Prim.Native.Nat.{ℕ, _+_, _≤_, _<_}
 use native.Mathlib.Numerals.{add-one}
 use native.Mathlib.Omega.{arith}
-use lib.ListN.{length, take, set, length-set}
+use lib.ListN.{length, take, set}
 use lib.Seq.{take-suc-set}
 use Rattle.engine.specs.Held.{Advertisement, advertisementOf, advertisementsOf}
 use Rattle.engine.specs.Replies.{sumOf, sooner, soonest}

@@ -1,9 +1,9 @@
 -- An ordered table in an array of slots with a count: `entries` seen through a view, in the order of a key. Once the key's spot is known, the entries after a store,
 -- an entry put in or one taken out there are those after `enter` and `leave`.
-use mathlib.Core.Path.{_≡_, refl, sym, _∙_, ap, subst}
+use mathlib.Core.Path.{_≡_, sym, _∙_, ap}
 use mathlib.Core.Bool.{Bool, true, false, not, _&&_, true≢false}
 use mathlib.Core.List.{List, [], _∷_, map}
-use Prim.Native.Nat.{ℕ, suc, min, _+_, _≤_, _<_}
+use Prim.Native.Nat.{ℕ, min, _≤_, _<_}
 use native.Mathlib.Omega.{arith}
 use borrow.Author.Tests.{le-leb}
 use lib.Dec.{leb}

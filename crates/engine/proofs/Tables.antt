@@ -2,14 +2,11 @@
 -- Then a table as an array with a count and a view of its entries: what is left of it from an index on, and the view after a store, an entry put in and one taken out.
 use mathlib.Core.Path.{_≡_, refl, sym, _∙_, ap}
 use mathlib.Core.Bool.{Bool, true, false, cond, true≢false}
-use mathlib.Core.List.{List, [], _∷_, _++_, map, append-assoc}
-use Prim.Native.Nat.{ℕ, zero, suc, min, _+_, _≤_, _<_, zero-le, suc-le-suc}
-use native.Mathlib.Nat.{min-eq-left, min-eq-right, zero-lt-suc}
-use native.Mathlib.Decide.{decLe}
-use native.Mathlib.Numerals.{add-one}
+use mathlib.Core.List.{List, [], _∷_, _++_}
+use Prim.Native.Nat.{ℕ, suc, _+_, _≤_, _<_, zero-le, suc-le-suc}
+use native.Mathlib.Nat.{zero-lt-suc}
 use native.Mathlib.Omega.{arith}
-use lib.ListN.{length, take, drop, set, getD, length-take, length-map, drop-of-length-le, List·getD-map}
-use lib.Seq.{drop-cons, getD-take, take-all, take-length, take-set-lt}
+use lib.ListN.{length, take, drop, set, getD}
 use Rattle.engine.specs.Table.{Key, rank, known, entryOf, enter, leave}
 use Rattle.engine.specs.Spot.{Spotted}
 

@@ -1,10 +1,10 @@
 -- The addresses that messages go out from, gathered link by link: `out` are those so far, `rest` the links that are left.
-use mathlib.Core.Path.{_≡_, refl, sym, _∙_, ap}
-use mathlib.Core.Bool.{Bool, true, false, cond}
+use mathlib.Core.Path.{_≡_, sym, _∙_, ap}
+use mathlib.Core.Bool.{cond}
 use mathlib.Core.List.{List, [], _∷_, _++_, append-assoc, append-nil}
-use Prim.Native.Nat.{ℕ, min, _+_, _*_, _≤_, _<_}
+use Prim.Native.Nat.{ℕ, min, _+_, _*_, _≤_}
 use native.Mathlib.Omega.{arith}
-use lib.ListN.{length, take, drop, getD}
+use lib.ListN.{length, take, getD}
 use Rattle.engine.specs.Held.{Link}
 use Rattle.engine.specs.Links.{upAddresses}
 use Rattle.engine.specs.Addresses.{SourcesOf}

@@ -1,13 +1,18 @@
 -- What a search and a handle_timeout make of one advertisement, case by case of its waiting reply, and what each counts.
-use mathlib.Core.Path.{_≡_, refl, sym, _∙_, ap}
-use mathlib.Core.Bool.{Bool, true, false, cond}
-use Prim.Native.Nat.{ℕ, _≤_}
+use mathlib.Core.Path.{_≡_, refl, _∙_, ap}
+use mathlib.Core.Bool.{Bool, true, false}
+use mathlib.Core.List.{List, [], _∷_, map}
+use Prim.Native.Nat.{ℕ, _+_, _≤_}
+use native.Mathlib.Nat.{add-zero}
 use native.Mathlib.Omega.{arith}
 use Rattle.engine.specs.Held.{Text, Advertisement, advertisementOf}
 use Rattle.engine.specs.Calls.{Query}
 use Rattle.engine.specs.Records.{isDue}
-use Rattle.engine.specs.Replies.{waits, sameSender, askedNeed, askedAnswer, answerType, hits, asked, matchedBy, joinedBy, servedNeed, served, isAlone, isGroup, aloneAt, groupAt}
-use Rattle.engine.specs.Passes.{One, withNeed, withAnswer}
+use Rattle.engine.specs.Replies.{sumOf, waits, waiting, result, sameSender, askedNeed, askedAnswer, answerType, hits, asked, matchedBy, joinedBy, servedNeed, served, isAlone, isGroup, aloneAt, groupAt}
+use Rattle.engine.specs.Passes.{One, All, askedBy, withNeed, withAnswer}
+use Rattle.engine.specs.Asking.{Asking}
+use Rattle.engine.specs.Delay.{delay}
+use Rattle.engine.specs.declared.replies.AskedTable.{AskedTable}
 use Rattle.engine.specs.declared.advertisement.Endpoint.{Endpoint}
 use Rattle.engine.specs.declared.advertisement.ActiveAdvertisement.{ActiveAdvertisement}
 use Rattle.engine.specs.declared.advertisement.ResponseNeeded.{ResponseNeeded}
@@ -61,3 +66,53 @@ module _ (time : ℕ) (a : Advertisement) where
       → (m ≡ isAlone (a .needed)) × (m ≤ 1) → (n ≡ isGroup (a .needed)) × (n ≤ 1) → One (served time) (aloneAt time) (groupAt time) a b m n
   unfolding aloneAt groupAt
   serve-due f e m n = record { entry = e ∙ with-need (rw f); first = (rw f (m .0), m .1); second = (rw f (n .0), n .1) }
+
+-- ---- the waits of one entry or none
+pub waiting-one : {l : List Advertisement} {a : Advertisement} → l ≡ a ∷ [] → waiting l ≡ waits (a .needed)
+unfolding waiting sumOf
+waiting-one {l} {a} e = ap waiting e ∙ add-zero (waits (a .needed))
+
+pub waiting-none : {l : List Advertisement} → l ≡ [] → waiting l ≡ 0
+unfolding waiting sumOf
+waiting-none e = ap waiting e
+
+-- ---- a search on all: replies depend on its target, sender and receiver alone
+module _ (due : ℕ) (q : Query) where
+  abbrev parts : Query
+  parts = askedBy (q .target) (q .sender) (q .receiver)
+
+  needed-parts : (b : Bool) (n : ResponseNeeded) → askedNeed b due parts n ≡ askedNeed b due q n
+  needed-parts false n = refl
+  needed-parts true None = refl
+  needed-parts true (Multicast d) = refl
+  needed-parts true (Unicast d s r) = refl
+
+  answer-parts : (b : Bool) (kind : Text) (n : ResponseNeeded) (t : Text) → askedAnswer b parts kind n t ≡ askedAnswer b q kind n t
+  answer-parts false kind n t = refl
+  answer-parts true kind None t = refl
+  answer-parts true kind (Multicast d) t = refl
+  answer-parts true kind (Unicast d s r) t = refl
+
+  one-parts : (a : Advertisement) → asked due parts a ≡ asked due q a
+  unfolding asked
+  one-parts a = λ i. record {
+    name = a .name;
+    kind = a .kind;
+    location = a .location;
+    needed = needed-parts (hits q a) (a .needed) i;
+    answer = answer-parts (hits q a) (a .kind) (a .needed) (a .answer) i;
+  }
+
+  pub asked-parts : (as′ : List Advertisement) → map (asked due (askedBy (q .target) (q .sender) (q .receiver))) as′ ≡ map (asked due q) as′
+  asked-parts [] = refl
+  asked-parts (a ∷ l) = λ i. one-parts a i ∷ asked-parts l i
+
+pub asking : {as′ : List Advertisement} {r : AskedTable} (seed due : ℕ) (q : Query) → due ≡ q .time + delay seed (q .mx)
+    → All (asked due (askedBy (q .target) (q .sender) (q .receiver))) (matchedBy (askedBy (q .target) (q .sender) (q .receiver))) (joinedBy (askedBy (q .target) (q .sender) (q .receiver))) as′ (r .table) (r .matched) (r .joined)
+    → Asking seed as′ q r
+unfolding result matchedBy joinedBy
+asking {as′} seed due q e a = record {
+  table = a .table ∙ asked-parts due q as′ ∙ ap (λ (d : ℕ). map (asked d q) as′) e;
+  matched = a .first;
+  joined = a .second;
+}

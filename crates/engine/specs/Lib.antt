@@ -19,6 +19,7 @@ pub mod Layout
 pub mod Replies
 pub mod NameTable
 pub mod Passes
+pub mod Asking
 pub mod Refusals
 pub mod Engine
 pub mod Telling

@@ -96,6 +96,13 @@ pub fn none() -> Advertisements
     }
 }
 
+// How many advertisements are held.
+pub fn count_of(t: Advertisements) -> usize
+    ensures { λ r. ⌜ r ≡ length (advertisementsOf t) ⌝ }
+{
+    least(t.count, 8)
+}
+
 // Whether the name of an advertisement is below a name in byte order.
 fn is_below(a: ActiveAdvertisement, name: &[u8]) -> bool
     ensures { λ r. ⌜ r ≡ isLess (order (advertisementOf a .name) (now (name .entry))) ⌝ }
@@ -213,6 +220,13 @@ pub fn entered(t: Advertisements, a: ActiveAdvertisement) -> Advertisements
         out.count = n + 1;
     }
     out
+}
+
+// The advertisements with a new one of these texts, which takes the place of the one of its name. The guards are those of refusals 3 and 5.
+pub fn advertise(t: Advertisements, name: &[u8], kind: &[u8], location: &[u8]) -> Advertisements
+    ensures { λ r. ⌜ ((over nameMax (now (name .entry)) || over typeMax (now (kind .entry)) || over locationMax (now (location .entry))) ≡ false → (not (known advertised (now (name .entry)) (advertisementsOf t)) && leb advertisementsMax (length (advertisementsOf t))) ≡ false → advertisementsOf r ≡ enter advertised (newcomer (now (name .entry)) (now (kind .entry)) (now (location .entry))) (advertisementsOf t)) ⌝ }
+{
+    entered(t, made(name, kind, location))
 }
 
 // The advertisements without the one of a name.

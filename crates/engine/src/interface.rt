@@ -3,6 +3,7 @@ use crate::clamp::least;
 use crate::table::Spot;
 ghost use mathlib.Core.Path.{_≡_};
 ghost use mathlib.Core.Bool.{false, not, _&&_};
+ghost use mathlib.Core.List.{[]};
 ghost use Prim.Native.Nat.{_+_, _-_, _<_, _≤_};
 ghost use lib.Dec.{leb};
 ghost use lib.ListN.{length, take};
@@ -31,6 +32,29 @@ pub struct Interfaces {
 pub struct HeldLink {
     pub known: bool,
     pub link: Interface,
+}
+
+// No links.
+pub fn none() -> Interfaces
+    ensures { λ r. ⌜ linksOf r ≡ [] ⌝ }
+{
+    let blank = Interface {
+        index: 0,
+        up: false,
+        count: 0,
+        addresses: [0; 2],
+    };
+    Interfaces {
+        count: 0,
+        slots: [blank; 3],
+    }
+}
+
+// How many links are held.
+pub fn count_of(t: Interfaces) -> usize
+    ensures { λ r. ⌜ r ≡ length (linksOf t) ⌝ }
+{
+    least(t.count, 3)
 }
 
 // Where the link of an index stands.

@@ -3,7 +3,9 @@ use crate::advertisement::ActiveAdvertisement;
 use crate::advertisement::Advertisements;
 use crate::advertisement::Endpoint;
 use crate::advertisement::ResponseNeeded;
+use crate::advertisement::held_at;
 use crate::clamp::least;
+use crate::delay::delay_of;
 use crate::field::front80;
 use crate::field::text80;
 use crate::subscription::is_all;
@@ -14,10 +16,13 @@ ghost use Prim.Native.Nat.{_≤_, min};
 ghost use lib.ListN.{length, take};
 ghost use Rattle.message.specs.Build.{typeMax};
 ghost use Rattle.engine.specs.Target.{targetMatch};
-ghost use Rattle.engine.specs.Held.{advertisementOf, advertisementsOf};
+ghost use Rattle.engine.specs.Sizes.{timeMax};
+ghost use Rattle.engine.specs.Table.{entryOf};
+ghost use Rattle.engine.specs.Held.{advertisementOf, advertisementsOf, advertised};
 ghost use Rattle.engine.specs.Records.{isDue};
 ghost use Rattle.engine.specs.Replies.{waits, waiting, sooner, soonest, sameSender, answerType, hits, asked, matchedBy, joinedBy, served, isAlone, isGroup, aloneAt, groupAt};
 ghost use Rattle.engine.specs.Passes.{One, All, askedBy, withNeed, withAnswer};
+ghost use Rattle.engine.specs.Asking.{Asking};
 
 // Whether a reply waits: 1, or 0.
 pub(crate) fn wait_of(needed: ResponseNeeded) -> usize
@@ -44,6 +49,19 @@ pub(crate) fn waiting_in(t: Advertisements) -> usize
         i += 1;
     }
     sum
+}
+
+// How many replies of a name wait: what is dropped if it is replaced or removed.
+pub(crate) fn waiting_of(t: Advertisements, name: &[u8]) -> usize
+    ensures { λ r. ⌜ (r ≡ waiting (entryOf advertised (now (name .entry)) (advertisementsOf t))) × (r ≤ 1) ⌝ }
+{
+    let held = held_at(t, name);
+    if held.known {
+        let entry = held.entry;
+        let needed = entry.response_needed;
+        return wait_of(needed);
+    }
+    0
 }
 
 // The lesser of two instants.
@@ -241,6 +259,23 @@ pub(crate) fn ask_all(
         matched: matched,
         joined: joined,
     }
+}
+
+// The advertisements after a search that came at a time, with the delay of its replies.
+pub(crate) fn searched(
+    t: Advertisements,
+    seed: u32,
+    time: u64,
+    target: &[u8],
+    mx: u8,
+    sender: Endpoint,
+    receiver: u32,
+) -> AskedTable
+    requires { ⌜ (length (now target) ≤ typeMax) × (time ≤ timeMax) ⌝ }
+    ensures { λ r. ⌜ Asking seed (advertisementsOf t) (record { target = now (target .entry); mx = mx; sender = sender; receiver = receiver; time = time }) r ⌝ }
+{
+    let due = time + delay_of(seed, mx);
+    ask_all(t, due, target, sender, receiver)
 }
 
 // Whether a reply waits that is due.

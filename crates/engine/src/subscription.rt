@@ -54,6 +54,13 @@ pub fn none() -> ActiveSearches
     }
 }
 
+// How many subscriptions are held.
+pub fn count_of(t: ActiveSearches) -> usize
+    ensures { λ r. ⌜ r ≡ length (subscriptionsOf t) ⌝ }
+{
+    least(t.count, 4)
+}
+
 // The subscriptions with one more behind them, if there is room.
 pub fn pushed(t: ActiveSearches, kind: &[u8]) -> ActiveSearches
     ensures { λ r. ⌜ (over typeMax (now (kind .entry)) ≡ false → leb subscriptionsMax (length (subscriptionsOf t)) ≡ false → subscriptionsOf r ≡ subscriptionsOf t ++ (now (kind .entry) ∷ [])) ⌝ }

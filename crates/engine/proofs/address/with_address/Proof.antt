@@ -1,8 +1,6 @@
 -- The new address is stored behind those held. Where there is no room the promise asks for nothing.
 use mathlib.Core.Path.{_≡_, sym, _∙_, ap}
 use mathlib.Core.Bool.{true≢false}
-use mathlib.Core.List.{List}
-use Prim.Native.Nat.{ℕ}
 use borrow.Author.Tests.{le-leb}
 use lib.ListN.{length, take, length-take, length-map}
 use Rattle.engine.specs.Held.{linkOf}

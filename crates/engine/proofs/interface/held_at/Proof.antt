@@ -1,10 +1,7 @@
 -- A known link is the entry at its rank; one that is not known is as a link that is down and has no addresses.
-use mathlib.Core.Path.{_≡_, refl, sym, _∙_, ap}
-use mathlib.Core.Bool.{true, false, _||_}
-use mathlib.Core.List.{append-nil}
+use mathlib.Core.Path.{_≡_, sym, _∙_}
 use lib.ListN.{length, length-map}
 use Rattle.engine.specs.Held.{linkOf, linksOf, byIndex}
-use Rattle.engine.specs.Links.{anyUp, addressesOf}
 use Rattle.engine.proofs.SlotTables as tables
 use Rattle.engine.proofs.LinkTables as links
 use native.Mathlib.Omega.{arith}

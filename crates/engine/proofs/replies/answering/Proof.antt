@@ -1,6 +1,6 @@
 -- Each case of the waiting reply is a case of the definition.
-use mathlib.Core.Path.{_≡_, sym, _∙_, ap}
-use Rattle.engine.specs.Held.{Advertisement, advertisementOf}
+use mathlib.Core.Path.{sym, _∙_, ap}
+use Rattle.engine.specs.Held.{advertisementOf}
 use Rattle.engine.specs.Passes.{withNeed}
 use Rattle.engine.specs.declared.advertisement.ResponseNeeded.the-variants.{Unicast}
 use Rattle.engine.proofs.Waits as waits

@@ -1,5 +1,5 @@
 -- The bytes that are matched are the view's type.
-use mathlib.Core.Path.{_≡_, _∙_, ap}
+use mathlib.Core.Path.{_∙_, ap}
 use Rattle.engine.specs.Target.{targetMatch}
 use Rattle.engine.specs.Held.{advertisementOf}
 use borrow.Author.Needs.{needs}

@@ -1,5 +1,5 @@
 -- Each case of the waiting reply is a case of the definition.
-use mathlib.Core.Path.{_≡_, sym, _∙_, ap}
+use mathlib.Core.Path.{sym, _∙_, ap}
 use Rattle.engine.specs.Replies.{sooner}
 use borrow.Author.Needs.{needs}
 use Rattle.engine.proofs.replies.sooner_of.Statement.{statement}

@@ -1,8 +1,7 @@
 -- The answer type's bytes are those of the advertised type, or the target's, which are no more than the array's.
-use mathlib.Core.Path.{_≡_, sym, _∙_, ap}
+use mathlib.Core.Path.{sym, _∙_, ap}
 use lib.Seq.{take-all}
 use Rattle.engine.specs.Held.{Text, advertisementOf}
-use Rattle.engine.specs.Replies.{answerType}
 use Rattle.engine.specs.Passes.{withAnswer}
 use borrow.Author.Needs.{needs}
 use Rattle.engine.proofs.replies.with_answer_to.Statement.{statement}

@@ -1,5 +1,5 @@
 -- Behind no addresses stand the link's alone.
-use mathlib.Core.Path.{_≡_, _∙_, ap}
+use mathlib.Core.Path.{_∙_, ap}
 use mathlib.Core.List.{_++_}
 use Prim.Native.Nat.{ℕ}
 use lib.ListN.{take}

@@ -1,5 +1,5 @@
 -- A link that is not up adds none.
-use mathlib.Core.Path.{_≡_, sym, _∙_, ap}
+use mathlib.Core.Path.{sym, _∙_, ap}
 use mathlib.Core.Bool.{Bool, cond}
 use mathlib.Core.List.{[], _++_, append-nil}
 use lib.ListN.{take}

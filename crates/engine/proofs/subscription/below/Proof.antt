@@ -1,7 +1,7 @@
 -- Each bit is a case of the definition.
-use mathlib.Core.Path.{_≡_, sym, ap}
+use mathlib.Core.Path.{sym, ap}
 use mathlib.Core.Bool.{Bool}
-use Prim.Native.Nat.{ℕ, _+_, _*_}
+use Prim.Native.Nat.{_+_, _*_}
 use Rattle.engine.specs.Replies.{one}
 use native.Mathlib.Omega.{arith}
 use borrow.Author.Needs.{needs}

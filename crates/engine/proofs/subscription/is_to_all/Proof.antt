@@ -1,5 +1,5 @@
 -- The bytes that are compared are the view's type.
-use mathlib.Core.Path.{_≡_, _∙_, ap}
+use mathlib.Core.Path.{_∙_, ap}
 use Rattle.text.specs.Bytes.{equal}
 use Rattle.engine.specs.Target.{ssdpAll}
 use Rattle.engine.specs.Held.{Text, kindOf}

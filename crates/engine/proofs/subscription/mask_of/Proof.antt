@@ -1,5 +1,5 @@
 -- The mask is that of the subscriptions from `i` on. The measure is `i`.
-use mathlib.Core.Path.{_≡_, refl, sym, _∙_}
+use mathlib.Core.Path.{_≡_, sym, _∙_}
 use Prim.Native.Nat.{_-_, _≤_, min}
 use lib.ListN.{length, drop, length-map}
 use Rattle.engine.specs.Held.{kindOf, subscriptionsOf}

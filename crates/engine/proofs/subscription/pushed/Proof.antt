@@ -1,7 +1,7 @@
 -- The new type is stored behind those held, whole, since it is no longer than its array. Where there is no room the promise asks for nothing.
 use mathlib.Core.Path.{_≡_, sym, _∙_, ap}
 use mathlib.Core.Bool.{true≢false}
-use mathlib.Core.List.{List, [], _∷_, _++_}
+use mathlib.Core.List.{[], _∷_, _++_}
 use borrow.Author.Tests.{le-leb, ltb-false}
 use lib.ListN.{length, length-map}
 use lib.Seq.{take-all}

@@ -1,0 +1,3 @@
+-- The laws of the console, one file a subject.
+pub mod Appending
+pub mod Printing

@@ -1,0 +1,3 @@
+-- What the contracts of the console cite, one file a subject.
+pub mod Buffer
+pub mod Decimal

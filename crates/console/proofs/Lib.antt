@@ -1,3 +1,8 @@
 -- The laws of the console, one file a subject.
 pub mod Appending
+pub mod InEach
+pub mod Pairs
+pub mod Parts
+pub mod Octets
 pub mod Printing
+pub mod Reading

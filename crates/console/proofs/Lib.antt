@@ -1,5 +1,7 @@
 -- The laws of the console, one file a subject.
 pub mod Appending
+pub mod Gathering
+pub mod Hearing
 pub mod InEach
 pub mod Pairs
 pub mod Parts

@@ -5,3 +5,4 @@ pub mod Decimal
 pub mod Datagram
 pub mod Hexadecimal
 pub mod Address
+pub mod Input

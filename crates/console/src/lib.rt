@@ -5,3 +5,4 @@ pub mod buffer;
 pub mod datagram;
 pub mod decimal;
 pub mod hexadecimal;
+pub mod input;

@@ -5,6 +5,7 @@ pub mod Hearing
 pub mod InEach
 pub mod Pairs
 pub mod Parts
+pub mod InLine
 pub mod Octets
 pub mod Printing
 pub mod Reading

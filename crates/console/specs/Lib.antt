@@ -6,3 +6,4 @@ pub mod Datagram
 pub mod Hexadecimal
 pub mod Address
 pub mod Input
+pub mod Field

@@ -4,5 +4,6 @@ pub mod address;
 pub mod buffer;
 pub mod datagram;
 pub mod decimal;
+pub mod field;
 pub mod hexadecimal;
 pub mod input;

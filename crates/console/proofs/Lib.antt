@@ -1,5 +1,6 @@
 -- The laws of the console, one file a subject.
 pub mod Appending
+pub mod Commands
 pub mod Gathering
 pub mod Hearing
 pub mod InEach

@@ -7,3 +7,4 @@ pub mod Hexadecimal
 pub mod Address
 pub mod Input
 pub mod Field
+pub mod Command

@@ -2,6 +2,7 @@
 // the program lends; reading and writing standard streams stays with the program.
 pub mod address;
 pub mod buffer;
+pub mod command;
 pub mod datagram;
 pub mod decimal;
 pub mod field;

@@ -1,14 +1,14 @@
 -- A dotted address, as document 01, 'The session program', reads it and as `trace` prints it: four numbers of 0 to 255 in decimal, no sign, no leading zero.
 use Prim.Native.Nat.{ℕ, zero, suc, _+_, _*_}
 use mathlib.Core.Bool.{cond, _&&_, _||_}
-use mathlib.Core.List.{List, [], _∷_, _++_}
+use mathlib.Core.List.{List, _++_}
 use lib.Dec.{eqb, ltb}
 use lib.ListN.{length, take, drop, getD}
 use Rattle.text.specs.Number.{number, max8}
 use Rattle.text.specs.Bytes.{indexOf}
 use Rattle.text.specs.declared.number.Number.{Number}
 use Rattle.text.specs.declared.number.Number.the-variants.{Value, Invalid}
-use Rattle.console.specs.Decimal.{decimal}
+use Rattle.console.specs.Decimal.{numberThen}
 
 -- a number, or 256 if there is none
 abbrev pub orNone : Number → ℕ
@@ -31,7 +31,6 @@ octets (suc k) n s =
 unfoldable pub address : List ℕ → Number
 address s = octets 3 0 s
 
--- four bytes as a dotted address
-unfoldable pub dotted : List ℕ → List ℕ
-dotted s =
-    decimal (getD s 0 0) ++ (46 ∷ []) ++ decimal (getD s 1 0) ++ (46 ∷ []) ++ decimal (getD s 2 0) ++ (46 ∷ []) ++ decimal (getD s 3 0)
+-- the first four bytes of s as a dotted address, and the byte that ends it
+unfoldable pub addressThen : ℕ → List ℕ → List ℕ
+addressThen end s = numberThen 46 (getD s 0 0) ++ (numberThen 46 (getD s 1 0) ++ (numberThen 46 (getD s 2 0) ++ numberThen end (getD s 3 0)))

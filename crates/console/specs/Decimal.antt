@@ -12,3 +12,7 @@ figures (suc k) n = cond (ltb n 10) ((48 + n) ∷ []) (figures k (n / 10) ++ ((4
 -- no number has more digits than one more than its value
 unfoldable pub decimal : ℕ → List ℕ
 decimal n = figures n n
+
+-- a number and the byte that ends it
+unfoldable pub numberThen : ℕ → ℕ → List ℕ
+numberThen end n = decimal n ++ (end ∷ [])

@@ -1,9 +1,13 @@
 // Dotted addresses: document 01, 'The session program'.
+use crate::decimal;
+use crate::part;
 use text::bytes;
 use text::number;
 use text::number::Number;
 ghost use mathlib.Core.Path.{_≡_};
-ghost use Rattle.console.specs.Address.{orNone, octet, address};
+ghost use lib.ListN.{getD};
+ghost use Rattle.console.specs.Buffer.{Appends};
+ghost use Rattle.console.specs.Address.{orNone, octet, address, addressThen};
 
 fn or_none(n: Number) -> u64
     ensures { λ r. ⌜ r ≡ orNone n ⌝ }
@@ -53,4 +57,14 @@ pub fn address_of(s: &[u8]) -> Number
         return Number::Invalid;
     }
     Number::Value(n * 256 + d)
+}
+
+// Appends the first four bytes of `s` as a dotted address, and the byte that ends it.
+pub fn append_address(buf: &mut [u8], len: usize, s: &[u8], end: u8) -> usize
+    ensures { λ r. ⌜ Appends (addressThen end (now (s .entry))) (now (buf .entry)) len (now (buf .exit)) r ⌝ }
+{
+    let first = decimal::append_number(buf, len, part::byte_at(s, 0) as u64, b'.');
+    let second = decimal::append_number(buf, first, part::byte_at(s, 1) as u64, b'.');
+    let third = decimal::append_number(buf, second, part::byte_at(s, 2) as u64, b'.');
+    decimal::append_number(buf, third, part::byte_at(s, 3) as u64, end)
 }

@@ -8,3 +8,4 @@ pub mod decimal;
 pub mod field;
 pub mod hexadecimal;
 pub mod input;
+pub mod part;

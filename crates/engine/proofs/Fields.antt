@@ -9,7 +9,7 @@ use borrow.Author.Tests.{ltb-false}
 use lib.ListN.{length, take, drop, drop-of-length-le}
 use lib.Seq.{take-all, take-at, length-take-le}
 use Rattle.message.specs.Build.{typeMax, nameMax}
-use Rattle.message.specs.Put.{overwritten, Put}
+use Rattle.text.specs.Put.{overwritten, Put}
 use Rattle.engine.specs.Sizes.{locationMax}
 use Rattle.engine.specs.Held.{Text}
 use Rattle.engine.specs.Replies.{newcomer}

@@ -15,18 +15,29 @@ ghost use Rattle.engine.specs.Refusals.{Names, refusal, newRefusal};
 
 // The numbers, by what each refuses.
 pub const TIME_LATE: u32 = 1;
+
 pub const OUTBOX_SHORT: u32 = 2;
+
 pub const TEXT_OVER_SIZE: u32 = 3;
+
 pub const TEXT_NOT_GOOD: u32 = 4;
+
 pub const TABLE_FULL: u32 = 5;
+
 pub const WAIT_ZERO: u32 = 9;
+
 pub const TARGET_OVER_SIZE: u32 = 10;
+
 pub const INDEX_ZERO: u32 = 11;
+
 pub const ADDRESS_LENGTH: u32 = 12;
+
 pub const LINKS_FULL: u32 = 13;
+
 pub const JOIN_FAILED: u32 = 14;
 
 pub const TIME_MAX: u64 = 9223372036854775807;
+
 pub const OUTBOX_SIZE: usize = 62880;
 
 // The number, if the test fails; else the rest's.
@@ -37,7 +48,14 @@ fn first(fails: bool, number: u32, rest: u32) -> u32
 }
 
 // `advertise`, where the name is held or not among `count` names.
-pub fn of_advertise(held: bool, count: usize, room: usize, name: &[u8], kind: &[u8], location: &[u8]) -> u32
+pub fn of_advertise(
+    held: bool,
+    count: usize,
+    room: usize,
+    name: &[u8],
+    kind: &[u8],
+    location: &[u8],
+) -> u32
     ensures { λ r. ⌜ ((x : Context) (n : Names) → n .holds (now (name .entry)) ≡ held → n .count ≡ count → n .need ≡ outboxSize → r ≡ refusal x n (Advertise (now (name .entry)) (now (kind .entry)) (now (location .entry)) room)) ⌝ }
 {
     let full = first((!held) & (8 <= count), TABLE_FULL, 0);
@@ -76,17 +94,32 @@ pub fn of_time(time: u64) -> u32
 pub fn of_timeout(time: u64, room: usize) -> u32
     ensures { λ r. ⌜ ((x : Context) (n : Names) → n .need ≡ outboxSize → r ≡ refusal x n (Timeout time room)) ⌝ }
 {
-    first(TIME_MAX < time, TIME_LATE, first(room < OUTBOX_SIZE, OUTBOX_SHORT, 0))
+    first(
+        TIME_MAX < time,
+        TIME_LATE,
+        first(room < OUTBOX_SIZE, OUTBOX_SHORT, 0),
+    )
 }
 
 // News of a link that is multicast or not, and held or not among `count` links.
-pub fn of_new_link(multicast: bool, held: bool, count: usize, index: u32, outcome: u32, room: usize) -> u32
+pub fn of_new_link(
+    multicast: bool,
+    held: bool,
+    count: usize,
+    index: u32,
+    outcome: u32,
+    room: usize,
+) -> u32
     ensures { λ r. ⌜ ((x : Context) (n : Names) (flags : ℕ) → isMulticast flags ≡ multicast → known byIndex index (x .links) ≡ held → length (x .links) ≡ count → n .need ≡ outboxSize → r ≡ refusal x n (NewLink index flags outcome room)) ⌝ }
 {
     let fresh = multicast & (!held);
     let joined = first(fresh & (outcome != 0), JOIN_FAILED, 0);
     let full = first(fresh & (3 <= count), LINKS_FULL, joined);
-    first(room < OUTBOX_SIZE, OUTBOX_SHORT, first(index == 0, INDEX_ZERO, full))
+    first(
+        room < OUTBOX_SIZE,
+        OUTBOX_SHORT,
+        first(index == 0, INDEX_ZERO, full),
+    )
 }
 
 // The deletion of a link.
@@ -101,14 +134,26 @@ pub fn of_new_address(storing: bool, count: usize, index: u32, address: &[u8], r
     ensures { λ r. ⌜ ((x : Context) (n : Names) → stores index (now (address .entry)) (x .links) ≡ storing → length (addressesOf (linkAt index (x .links))) ≡ count → n .need ≡ outboxSize → r ≡ refusal x n (NewAddress index (now (address .entry)) room)) ⌝ }
 {
     let full = first(storing & (2 <= count), LINKS_FULL, 0);
-    let formed = first(!((address.len() == 4) | (address.len() == 16)), ADDRESS_LENGTH, full);
-    first(room < OUTBOX_SIZE, OUTBOX_SHORT, first(index == 0, INDEX_ZERO, formed))
+    let formed = first(
+        !((address.len() == 4) | (address.len() == 16)),
+        ADDRESS_LENGTH,
+        full,
+    );
+    first(
+        room < OUTBOX_SIZE,
+        OUTBOX_SHORT,
+        first(index == 0, INDEX_ZERO, formed),
+    )
 }
 
 // The deletion of an address.
 pub fn of_deleted_address(index: u32, address: &[u8]) -> u32
     ensures { λ r. ⌜ ((x : Context) (n : Names) → r ≡ refusal x n (DeletedAddress index (now (address .entry)))) ⌝ }
 {
-    let formed = first(!((address.len() == 4) | (address.len() == 16)), ADDRESS_LENGTH, 0);
+    let formed = first(
+        !((address.len() == 4) | (address.len() == 16)),
+        ADDRESS_LENGTH,
+        0,
+    );
     first(index == 0, INDEX_ZERO, formed)
 }

@@ -7,7 +7,7 @@ use native.Mathlib.Omega.{arith}
 use borrow.Author.Tests.{lt-ltb, le-ltb, ltb-true, ltb-false, le-leb, leb-true, ne-eqb}
 use lib.Dec.{ltb, leb}
 use lib.ListN.{length, getD, length-append, List·getD-append}
-use Rattle.text.specs.Range.{within}
+use Rattle.text.specs.Range.{within, every}
 use Rattle.text.specs.Number.{value, digits, more, unsigned, number}
 use Rattle.text.specs.declared.number.Number.the-variants.{Value}
 use Rattle.console.specs.Decimal.{figures, decimal}
@@ -46,7 +46,7 @@ value-snoc a [] d = refl
 value-snoc a (b ∷ s) d = value-snoc (a * 10 + (b - 48)) s d
 
 digits-snoc : (s : List ℕ) (d : ℕ) → digits s ≡ true → within 48 57 d ≡ true → digits (s ++ (d ∷ [])) ≡ true
-unfolding digits
+unfolding every
 digits-snoc [] d e g = rw g
 digits-snoc (b ∷ s) d e g = let p = and-eq-true-iff (within 48 57 b) (digits s) .0 e in rw (p .0) (digits-snoc s d (p .1) g)
 
@@ -55,7 +55,7 @@ is-digit d h = rw (le-leb 48 (48 + d) (omega arith), le-leb (48 + d) 57 (omega a
 
 -- the digits of a number are digits, and their value is the number
 figures-digits : (k n : ℕ) → n ≤ k → digits (figures k n) ≡ true
-unfolding figures digits
+unfolding figures every
 figures-digits zero n h = rw (is-digit n (omega arith))
 figures-digits (suc k) n h = go (ltb n 10) refl (λ e. figures-digits k (n / 10) (omega (arith, e)))
   where
@@ -76,7 +76,7 @@ figures-value (suc k) n h = go (ltb n 10) refl (λ e. figures-value k (n / 10) (
 
 -- what is nothing but digits is read as their value
 not-plus : (a : ℕ) (s : List ℕ) → digits (a ∷ s) ≡ true → a ≡ 43 → ⊥
-unfolding digits
+unfolding every
 not-plus a s e q =
     let p = and-eq-true-iff (within 48 57 a) (digits s) .0 e .0 in
     omega (arith, leb-true 48 a (and-eq-true-iff (leb 48 a) (leb a 57) .0 p .0))

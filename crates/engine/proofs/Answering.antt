@@ -1,13 +1,21 @@
 -- How a call's parts make what it promises: a refused call, and an accepted one.
 use mathlib.Core.Path.{_≡_, refl, sym, _∙_, ap, subst}
+use mathlib.Core.Bool.{Bool, true, false, cond}
 use mathlib.Core.List.{List, [], _∷_}
-use Prim.Native.Nat.{ℕ, zero, suc}
+use Prim.Native.Nat.{ℕ, zero, suc, _≤_, _<_}
+use borrow.Author.Tests.{ltb-true, ltb-false}
+use lib.Dec.{ltb}
+use lib.ListN.{length}
 use native.Mathlib.Omega.{arith}
-use Rattle.engine.specs.Held.{Held, held}
-use Rattle.engine.specs.Calls.{Call}
-use Rattle.engine.specs.Records.{flat}
-use Rattle.engine.specs.Layout.{layout, written}
-use Rattle.engine.specs.Engine.{turned, Step, step, accepted, refusedBy, unless, Answers}
+use Rattle.engine.specs.Sizes.{timeMax}
+use Rattle.engine.specs.Held.{Held, held, fresh, advertisementsOf}
+use Rattle.engine.specs.Calls.{Call, Counts, zeros, acts}
+use Rattle.engine.specs.Replies.{waiting, soonest, Result, results}
+use Rattle.engine.specs.Refusals.{newRefusal}
+use Rattle.engine.specs.Records.{flat, records}
+use Rattle.engine.specs.Layout.{layout, written, Sent}
+use Rattle.engine.specs.Links.{contextAfter}
+use Rattle.engine.specs.Engine.{turned, poll, Told, tells, tellsNobody, Step, step, answerWith, accepted, refusedBy, unless, Answers, newStep, Begins}
 use Rattle.engine.specs.declared.engine.Engine.{Engine}
 use Rattle.engine.specs.declared.engine.Answer.{Answer}
 use Rattle.engine.specs.declared.engine.Answered.{Answered}
@@ -53,3 +61,78 @@ accepted-answers e c outbox outbox′ r t after answer out =
       sent = out ∙ ap (λ (x : Step). written (x .sent) outbox) (sym s);
       untouched = λ n. absurd (n t);
     }
+
+-- an answer, with the waiting and poll of an engine
+pub answer-of : (number records : ℕ) (c : Counts) (t : Told) (e : Engine) (w p : ℕ) → w ≡ waiting (advertisementsOf (e .advertisements)) →
+    p ≡ soonest (e .«refresh_timer» .«next_salvo») (advertisementsOf (e .advertisements)) →
+    _≡_ {A = Answer} (record {
+      refusal = number;
+      records = records;
+      matched = c .matched;
+      joined = c .joined;
+      alone = c .alone;
+      group = c .group;
+      dropped = c .dropped;
+      waiting = w;
+      poll = p;
+      mask = t .mask;
+      told = t .number;
+      leave = t .leave;
+    }) (answerWith number records c (held e) t)
+unfolding held poll
+answer-of number records c t e w p hw hp = rw (hw, hp)
+
+-- ---- `new`
+late-or-not : (b : Bool) (time : ℕ) → ltb timeMax time ≡ b → (_≡_ {A = ℕ} (cond b 1 0) 0 → time ≤ timeMax) × ((_≡_ {A = ℕ} (cond b 1 0) 0 → ⊥) → timeMax < time)
+late-or-not true time e = (λ h. absurd (omega arith), λ h. ltb-true timeMax time e)
+late-or-not false time e = (λ h. let k = ltb-false timeMax time e in omega arith, λ h. absurd (h refl))
+
+pub in-time : (time : ℕ) → newRefusal time ≡ 0 → time ≤ timeMax
+unfolding newRefusal
+in-time time h = late-or-not (ltb timeMax time) time refl .0 h
+
+pub too-late : (time : ℕ) → (newRefusal time ≡ 0 → ⊥) → timeMax < time
+unfolding newRefusal
+too-late time h = late-or-not (ltb timeMax time) time refl .1 h
+
+new-refused : (k seed time : ℕ) → (k ≡ 0 → ⊥) → newStep k seed time ≡ refusedBy k (fresh seed 0)
+new-refused zero seed time n = absurd (n refl)
+new-refused (suc k) seed time n = refl
+
+pub refused-begins : (seed time : ℕ) (r : Answered) (e : Engine) (k : ℕ) → k ≡ newRefusal time → (k ≡ 0 → ⊥) → held e ≡ fresh seed 0 → r .engine ≡ e →
+    r .answer ≡ refusedBy k (held e) .answer → Begins seed time r
+refused-begins seed time r e k t n f same answer =
+    let s : newStep (newRefusal time) seed time ≡ refusedBy k (fresh seed 0) = ap (λ (x : ℕ). newStep x seed time) (sym t) ∙ new-refused k seed time n in
+    record {
+      answer = answer ∙ ap (λ (h : Held). refusedBy k h .answer) f ∙ ap (λ (x : Step). x .answer) (sym s);
+      engine = ap held same ∙ f ∙ ap (λ (x : Step). x .after) (sym s);
+    }
+
+pub accepted-begins : (seed time : ℕ) (r : Answered) (e : Engine) → newRefusal time ≡ 0 → held e ≡ fresh seed time → r .engine ≡ e →
+    r .answer ≡ answerWith 0 0 zeros (held e) tellsNobody → Begins seed time r
+accepted-begins seed time r e t f same answer =
+    let s : newStep (newRefusal time) seed time ≡ newStep 0 seed time = ap (λ (x : ℕ). newStep x seed time) t in
+    record {
+      answer = answer ∙ ap (λ (h : Held). answerWith 0 0 zeros h tellsNobody) f ∙ ap (λ (x : Step). x .answer) (sym s);
+      engine = ap held same ∙ f ∙ ap (λ (x : Step). x .after) (sym s);
+    }
+
+-- ---- an accepted call, part by part: the engine after it, what it counts, whom it tells and what it sends
+pub done-answers : (e e′ : Engine) (c : Call) {outbox outbox′ : List ℕ} {r : Answered} (k : ℕ) (n : Counts) (t : Told) → turned (held e) c ≡ 0 →
+    held e′ ≡ record { context = contextAfter (held e .context) c; advertisements = results (held e .context .seed) (held e .advertisements) (acts c) .advertisements } →
+    n ≡ results (held e .context .seed) (held e .advertisements) (acts c) .counts → t ≡ tells (held e .context) c →
+    Sent (records (held e .context) (held e .advertisements) c) outbox outbox′ k → r .engine ≡ e′ → r .answer ≡ answerWith 0 k n (held e′) t →
+    Answers e c outbox outbox′ r
+unfolding accepted
+done-answers e e′ c {outbox} {outbox′} {r} k n t pass after counts told sent same answer =
+    accepted-answers e c outbox outbox′ r pass (ap held same ∙ after)
+    (answer
+    ∙ ap (λ (x : ℕ). answerWith 0 x n (held e′) t) (sent .number)
+    ∙ ap (λ (x : Counts). answerWith 0 (length (records (held e .context) (held e .advertisements) c)) x (held e′) t) counts
+    ∙ ap (λ (x : Held). answerWith 0 (length (records (held e .context) (held e .advertisements) c)) (results (held e .context .seed) (held e .advertisements) (acts c) .counts) x t) after
+    ∙ ap (λ (x : Told). answerWith 0 (length (records (held e .context) (held e .advertisements) c)) (results (held e .context .seed) (held e .advertisements) (acts c) .counts) (record { context = contextAfter (held e .context) c; advertisements = results (held e .context .seed) (held e .advertisements) (acts c) .advertisements }) x) told)
+    (sent .bytes)
+
+-- nothing sent by a call that takes no outbox
+pub sent-none : Sent [] [] [] 0
+sent-none = record { number = refl; bytes = sym (written-none []) }

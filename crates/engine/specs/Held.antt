@@ -84,12 +84,16 @@ held e = record {
   advertisements = advertisementsOf (e .advertisements);
 }
 
+-- what is held, part by part
+abbrev pub holding : ℕ → RefreshTimer → List Link → List Text → List Advertisement → Held
+holding seed timer links subscriptions advertisements = record {
+  context = record { seed = seed; timer = timer; links = links; subscriptions = subscriptions };
+  advertisements = advertisements;
+}
+
 -- an engine that has just begun, with a seed, at a time
 unfoldable pub fresh : ℕ → ℕ → Held
-fresh seed time = record {
-  context = record { seed = seed; timer = timerNew seed time; links = []; subscriptions = [] };
-  advertisements = [];
-}
+fresh seed time = holding seed (timerNew seed time) [] [] []
 
 -- ---- the keys of the two ordered tables
 abbrev pub isLess : Ordering → Bool

@@ -22,6 +22,7 @@ pub mod Passes
 pub mod Asking
 pub mod Refusals
 pub mod Engine
+pub mod Tallies
 pub mod Telling
 pub mod Ledger
 pub mod Claim

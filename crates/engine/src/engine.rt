@@ -1,8 +1,24 @@
-// The engine and what its calls answer: document 01, 'Engine and ledger' and 'Who can be turned away'.
+// The engine and its calls: document 01, 'Engine and ledger' and 'Who can be turned away'. Every call takes the engine by value and gives it back beside
+// its answer; each contract is `Answers` of specs/Engine.antt at that call: refusal, answer, what is held afterwards and the outbox.
+use crate::advertisement;
 use crate::advertisement::Advertisements;
+use crate::interface;
 use crate::interface::Interfaces;
 use crate::refresh_timer::RefreshTimer;
+use crate::refusals;
+use crate::replies::soonest_in;
+use crate::replies::waiting_in;
+use crate::send;
+use crate::source;
+use crate::subscription;
 use crate::subscription::ActiveSearches;
+ghost use mathlib.Core.Path.{_≡_};
+ghost use mathlib.Core.List.{[]};
+ghost use lib.ListN.{length};
+ghost use Rattle.engine.specs.Held.{held, holding};
+ghost use Rattle.engine.specs.Calls.{NewLink, DeletedLink, NewAddress, DeletedAddress, Subscribe, Advertise, Deadvertise, Refresh, Datagram, Timeout, ResetTimer, zeros};
+ghost use Rattle.engine.specs.Engine.{refusedBy, answerWith, tellsNobody, Answers, Begins};
+ghost use Rattle.engine.specs.Tallies.{counted, toldBy};
 
 // All that the engine holds between two calls.
 pub struct Engine {
@@ -34,4 +50,127 @@ pub struct Answer {
 pub struct Answered {
     pub engine: Engine,
     pub answer: Answer,
+}
+
+// What an accepted call counts, and whom it tells.
+struct Tally {
+    matched: usize,
+    joined: usize,
+    alone: usize,
+    group: usize,
+    dropped: usize,
+    mask: u32,
+    told: u32,
+    leave: u32,
+}
+
+// A call that counts nothing and tells nobody.
+fn nothing() -> Tally
+    ensures { λ r. ⌜ (counted r ≡ zeros) × (toldBy r ≡ tellsNobody) ⌝ }
+{
+    Tally {
+        matched: 0,
+        joined: 0,
+        alone: 0,
+        group: 0,
+        dropped: 0,
+        mask: 0,
+        told: 0,
+        leave: 0,
+    }
+}
+
+// The answer of an accepted call that leaves this engine.
+fn accepted(e: Engine, records: usize, t: Tally) -> Answered
+    ensures { λ r. ⌜ (r .engine ≡ e) × (r .answer ≡ answerWith 0 records (counted t) (held e) (toldBy t)) ⌝ }
+{
+    let timer = e.refresh_timer;
+    let table = e.advertisements;
+    Answered {
+        engine: e,
+        answer: Answer {
+            refusal: 0,
+            records: records,
+            matched: t.matched,
+            joined: t.joined,
+            alone: t.alone,
+            group: t.group,
+            dropped: t.dropped,
+            waiting: waiting_in(table),
+            poll: soonest_in(table, timer.next_salvo),
+            mask: t.mask,
+            told: t.told,
+            leave: t.leave,
+        },
+    }
+}
+
+// The answer of a refused call: the engine as it came.
+fn refused(e: Engine, number: u32) -> Answered
+    ensures { λ r. ⌜ (r .engine ≡ e) × (r .answer ≡ refusedBy number (held e) .answer) ⌝ }
+{
+    let timer = e.refresh_timer;
+    let table = e.advertisements;
+    Answered {
+        engine: e,
+        answer: Answer {
+            refusal: number,
+            records: 0,
+            matched: 0,
+            joined: 0,
+            alone: 0,
+            group: 0,
+            dropped: 0,
+            waiting: waiting_in(table),
+            poll: soonest_in(table, timer.next_salvo),
+            mask: 0,
+            told: 0,
+            leave: 0,
+        },
+    }
+}
+
+// An engine that holds nothing yet.
+fn empty(random_seed: u32, refresh_timer: RefreshTimer) -> Engine
+    ensures { λ r. ⌜ held r ≡ holding «random_seed» «refresh_timer» [] [] [] ⌝ }
+{
+    Engine {
+        random_seed: random_seed,
+        refresh_timer: refresh_timer,
+        interfaces: interface::none(),
+        active_searches: subscription::none(),
+        advertisements: advertisement::none(),
+    }
+}
+
+impl Engine {
+    // A call with a time that no call may bear gives an engine with that seed at time 0.
+    pub fn new(random_seed: u32, time: u64) -> Answered
+        ensures { λ r. ⌜ Begins «random_seed» time r ⌝ }
+    {
+        let number = refusals::of_time(time);
+        let begun = RefreshTimer::new(random_seed, time);
+        let timer = begun.timer;
+        let e = empty(random_seed, timer);
+        if number != 0 {
+            return refused(e, number);
+        }
+        accepted(e, 0, nothing())
+    }
+
+    // Begins the refresh salvos anew, as after the network was away.
+    pub fn reset_refresh_timer(self, time: u64) -> Answered
+        ensures { λ r. ⌜ Answers self (ResetTimer time) [] [] r ⌝ }
+    {
+        let number = refusals::of_time(time);
+        if number != 0 {
+            return refused(self, number);
+        }
+        let timer = self.refresh_timer;
+        let reset = timer.reset(time);
+        let next = reset.timer;
+        let mut e = self;
+        e.refresh_timer = next;
+        accepted(e, 0, nothing())
+    }
 }

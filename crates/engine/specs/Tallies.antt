@@ -1,0 +1,10 @@
+-- What an accepted call counts and whom it tells, as the code hands it on.
+use Rattle.engine.specs.Calls.{Counts}
+use Rattle.engine.specs.Engine.{Told}
+use Rattle.engine.specs.declared.engine.Tally.{Tally}
+
+abbrev pub counted : Tally → Counts
+counted t = record { matched = t .matched; joined = t .joined; alone = t .alone; group = t .group; dropped = t .dropped }
+
+abbrev pub toldBy : Tally → Told
+toldBy t = record { mask = t .mask; number = t .told; leave = t .leave }

@@ -8,4 +8,5 @@ pub mod FirstLine
 pub mod Trimming
 pub mod Digits
 pub mod GoodText
+pub mod Visible
 pub mod Writing

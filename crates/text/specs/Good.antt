@@ -3,9 +3,14 @@ use Prim.Native.Nat.{ℕ}
 use mathlib.Core.Bool.{Bool, _&&_}
 use mathlib.Core.List.{List}
 use lib.Dec.{eqb}
+use Rattle.text.specs.Range.{within}
 use Rattle.text.specs.Utf8.{utf8}
 use Rattle.text.specs.Bytes.{lacks}
 use Rattle.text.specs.White.{leading, trailing}
+
+-- a byte that is a character by itself and no white space
+abbrev pub visible : ℕ → Bool
+visible b = within 33 126 b
 
 -- refusal 4 does not meet the text
 unfoldable pub goodText : List ℕ → Bool

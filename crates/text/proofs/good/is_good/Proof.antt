@@ -1,35 +1,21 @@
--- `good::is_good`: each call's answer in its place.
+-- `good::is_good`: a text of visible characters is good; any other is judged rule by rule.
+use mathlib.Core.Path.{sym, _∙_}
 use borrow.Author.Needs.{needs}
-use Rattle.text.specs.Good.{goodText}
+use Rattle.text.proofs.Visible.{visible-good}
 use Rattle.text.proofs.good.is_good.Statement.{statement}
 use Rattle.text.proofs.good.is_good.Tie as tie
 
-is-utf8-requires : tie.Need-is-utf8-requires
-is-utf8-requires c κs = search needs
-
-lacks-requires : tie.Need-lacks-requires
-lacks-requires c κs = search needs
-
-lacks-requires-2 : tie.Need-lacks-requires-2
-lacks-requires-2 c κs = search needs
-
-leading-of-requires : tie.Need-leading-of-requires
-leading-of-requires c κs = search needs
-
-trailing-of-requires : tie.Need-trailing-of-requires
-trailing-of-requires c κs = search needs
+is-visible-requires : tie.Need-is-visible-requires
+is-visible-requires c κs = search needs
 
 returns : tie.Need-returns
-unfolding goodText
-returns c = cc
+returns c = visible-good (c .before .before .before .args .s .now) (sym (c .before .is-visible .ensures) ∙ c .if1 .taken)
+
+passes-requires : tie.Need-passes-requires
+passes-requires c κs = search needs
+
+returns-2 : tie.Need-returns-2
+returns-2 c = search needs
 
 pub is-good-spec : {M : Type 1} → statement M
-is-good-spec =
-    tie.close
-    (tie.spec
-    is-utf8-requires
-    lacks-requires
-    lacks-requires-2
-    leading-of-requires
-    trailing-of-requires
-    returns)
+is-good-spec = tie.close (tie.spec is-visible-requires returns passes-requires returns-2)

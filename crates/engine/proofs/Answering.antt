@@ -12,7 +12,7 @@ use Rattle.engine.specs.Held.{Held, held, fresh, advertisementsOf}
 use Rattle.engine.specs.Calls.{Call, Counts, zeros, acts}
 use Rattle.engine.specs.Replies.{waiting, soonest, Result, results}
 use Rattle.engine.specs.Refusals.{newRefusal}
-use Rattle.engine.specs.Records.{flat, records}
+use Rattle.engine.specs.Records.{Record, flat, records}
 use Rattle.engine.specs.Layout.{layout, written, Sent}
 use Rattle.engine.specs.Links.{contextAfter}
 use Rattle.engine.specs.Engine.{turned, poll, Told, tells, tellsNobody, Step, step, answerWith, accepted, refusedBy, unless, Answers, newStep, Begins}
@@ -136,3 +136,7 @@ done-answers e e′ c {outbox} {outbox′} {r} k n t pass after counts told sent
 -- nothing sent by a call that takes no outbox
 pub sent-none : Sent [] [] [] 0
 sent-none = record { number = refl; bytes = sym (written-none []) }
+
+-- the same records by another name
+pub sent-as : {rs rs′ : List Record} {outbox outbox′ : List ℕ} {k : ℕ} → Sent rs outbox outbox′ k → rs ≡ rs′ → Sent rs′ outbox outbox′ k
+sent-as {rs} {rs′} {outbox} {outbox′} {k} p e = subst (λ (x : List Record). Sent x outbox outbox′ k) e p

@@ -4,6 +4,7 @@ use crate::advertisement;
 use crate::advertisement::Advertisements;
 use crate::interface;
 use crate::interface::Interfaces;
+use crate::news;
 use crate::refresh_timer::RefreshTimer;
 use crate::refusals;
 use crate::replies::soonest_in;
@@ -13,12 +14,13 @@ use crate::source;
 use crate::subscription;
 use crate::subscription::ActiveSearches;
 ghost use mathlib.Core.Path.{_≡_};
+ghost use mathlib.Core.Bool.{cond};
 ghost use mathlib.Core.List.{[]};
 ghost use lib.ListN.{length};
 ghost use Rattle.engine.specs.Held.{held, holding};
 ghost use Rattle.engine.specs.Calls.{NewLink, DeletedLink, NewAddress, DeletedAddress, Subscribe, Advertise, Deadvertise, Refresh, Datagram, Timeout, ResetTimer, zeros};
 ghost use Rattle.engine.specs.Engine.{refusedBy, answerWith, tellsNobody, Answers, Begins};
-ghost use Rattle.engine.specs.Tallies.{counted, toldBy};
+ghost use Rattle.engine.specs.Tallies.{counted, toldBy, leaves};
 
 // All that the engine holds between two calls.
 pub struct Engine {
@@ -130,6 +132,23 @@ fn refused(e: Engine, number: u32) -> Answered
     }
 }
 
+// A link was deleted: its leave outcome, if it was held.
+fn leaving(held: bool, outcome: u32) -> Tally
+    ensures { λ r. ⌜ (counted r ≡ zeros) × (toldBy r ≡ leaves (cond held outcome 0)) ⌝ }
+{
+    let leave = if held { outcome } else { 0 };
+    Tally {
+        matched: 0,
+        joined: 0,
+        alone: 0,
+        group: 0,
+        dropped: 0,
+        mask: 0,
+        told: 0,
+        leave: leave,
+    }
+}
+
 // An engine that holds nothing yet.
 fn empty(random_seed: u32, refresh_timer: RefreshTimer) -> Engine
     ensures { λ r. ⌜ held r ≡ holding «random_seed» «refresh_timer» [] [] [] ⌝ }
@@ -171,6 +190,70 @@ impl Engine {
         let next = reset.timer;
         let mut e = self;
         e.refresh_timer = next;
+        accepted(e, 0, nothing())
+    }
+
+    // Sends all announcements, then the searches.
+    pub fn refresh(self, outbox: &mut [u8]) -> Answered
+        ensures { λ r. ⌜ Answers self (Refresh (length (now (outbox .entry)))) (now (outbox .entry)) (now (outbox .exit)) r ⌝ }
+    {
+        let number = refusals::of_room(outbox.len());
+        if number != 0 {
+            return refused(self, number);
+        }
+        let up = source::of_up_links(self.interfaces);
+        let from = up.addresses;
+        let searches = self.active_searches;
+        let table = self.advertisements;
+        let k = send::send_refresh(outbox, from, up.count, searches, table);
+        accepted(self, k, nothing())
+    }
+
+    // Searches for a type, now and at each refresh; notices of it are told of from now on.
+    pub fn subscribe(self, kind: &[u8], outbox: &mut [u8]) -> Answered
+        ensures { λ r. ⌜ Answers self (Subscribe (now (kind .entry)) (length (now (outbox .entry)))) (now (outbox .entry)) (now (outbox .exit)) r ⌝ }
+    {
+        let searches = self.active_searches;
+        let number = refusals::of_subscribe(subscription::count_of(searches), outbox.len(), kind);
+        if number != 0 {
+            return refused(self, number);
+        }
+        let up = source::of_up_links(self.interfaces);
+        let from = up.addresses;
+        let k = send::send_search(outbox, from, up.count, kind);
+        let next = subscription::pushed(searches, kind);
+        let mut e = self;
+        e.active_searches = next;
+        accepted(e, k, nothing())
+    }
+
+    // A link has gone; `outcome` is the host's from leaving the group on it, and is answered for a link that was held.
+    pub fn deleted_link(self, index: u32, outcome: u32) -> Answered
+        ensures { λ r. ⌜ Answers self (DeletedLink index outcome) [] [] r ⌝ }
+    {
+        let number = refusals::of_deleted_link(index);
+        if number != 0 {
+            return refused(self, number);
+        }
+        let links = self.interfaces;
+        let spot = interface::spot_of(links, index);
+        let next = interface::left(links, index);
+        let mut e = self;
+        e.interfaces = next;
+        accepted(e, 0, leaving(spot.known, outcome))
+    }
+
+    // An address has gone.
+    pub fn deleted_address(self, index: u32, address: &[u8]) -> Answered
+        ensures { λ r. ⌜ Answers self (DeletedAddress index (now (address .entry))) [] [] r ⌝ }
+    {
+        let number = refusals::of_deleted_address(index, address);
+        if number != 0 {
+            return refused(self, number);
+        }
+        let next = news::address_gone(self.interfaces, index, address);
+        let mut e = self;
+        e.interfaces = next;
         accepted(e, 0, nothing())
     }
 }

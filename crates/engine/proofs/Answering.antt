@@ -1,15 +1,16 @@
 -- How a call's parts make what it promises: a refused call, and an accepted one.
 use mathlib.Core.Path.{_≡_, refl, sym, _∙_, ap, subst}
-use mathlib.Core.Bool.{Bool, true, false, cond}
-use mathlib.Core.List.{List, [], _∷_}
+use mathlib.Core.Bool.{Bool, true, false, cond, _||_, true≢false}
+use mathlib.Core.List.{List, [], _∷_, append-nil}
 use Prim.Native.Nat.{ℕ, zero, suc, _≤_, _<_}
 use borrow.Author.Tests.{ltb-true, ltb-false}
 use lib.Dec.{ltb}
 use lib.ListN.{length}
 use native.Mathlib.Omega.{arith}
+use native.Mathlib.Nat.{add-zero}
 use Rattle.engine.specs.Sizes.{timeMax}
 use Rattle.engine.specs.Held.{Held, held, fresh, advertisementsOf}
-use Rattle.engine.specs.Calls.{Call, Counts, zeros, acts}
+use Rattle.engine.specs.Calls.{Call, Counts, zeros, plus, acts}
 use Rattle.engine.specs.Replies.{waiting, soonest, Result, results}
 use Rattle.engine.specs.Refusals.{newRefusal}
 use Rattle.engine.specs.Records.{Record, flat, records}
@@ -140,3 +141,32 @@ sent-none = record { number = refl; bytes = sym (written-none []) }
 -- the same records by another name
 pub sent-as : {rs rs′ : List Record} {outbox outbox′ : List ℕ} {k : ℕ} → Sent rs outbox outbox′ k → rs ≡ rs′ → Sent rs′ outbox outbox′ k
 sent-as {rs} {rs′} {outbox} {outbox′} {k} p e = subst (λ (x : List Record). Sent x outbox outbox′ k) e p
+
+pub sent-nothing : (outbox : List ℕ) → Sent [] outbox outbox 0
+sent-nothing outbox = record { number = refl; bytes = sym (written-none outbox) }
+
+-- what is sent by a test, and what is not
+pub chosen : {b : Bool} (rs : List Record) → b ≡ true → cond b rs [] ≡ rs
+chosen rs e = rw e
+
+pub not-chosen : {b : Bool} (rs : List Record) → b ≡ false → cond b rs [] ≡ []
+not-chosen rs e = rw e
+
+-- one entry, or none
+pub flat-one : {A : Type 0} (f : A → List Record) (b : Bool) (x : A) → cond b (f x) [] ≡ flat f (cond b (x ∷ []) [])
+unfolding flat
+flat-one f true x = sym (append-nil (f x))
+flat-one f false x = refl
+
+pub plus-zeros : (c : Counts) → plus c zeros ≡ c
+plus-zeros c = λ i. record {
+  matched = add-zero (c .matched) i;
+  joined = add-zero (c .joined) i;
+  alone = add-zero (c .alone) i;
+  group = add-zero (c .group) i;
+  dropped = add-zero (c .dropped) i;
+}
+
+pub or-right : (b c : Bool) → (b || c) ≡ false → c ≡ false
+or-right true c e = absurd (true≢false e)
+or-right false c e = e

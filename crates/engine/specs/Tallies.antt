@@ -13,3 +13,7 @@ toldBy t = record { mask = t .mask; number = t .told; leave = t .leave }
 -- nobody is told, and the leave outcome is answered
 abbrev pub leaves : ℕ → Told
 leaves outcome = record { mask = 0; number = 0; leave = outcome }
+
+-- replies were sent, alone and to the group
+abbrev pub sends : ℕ → ℕ → Counts
+sends alone group = record { matched = 0; joined = 0; alone = alone; group = group; dropped = 0 }

@@ -1,14 +1,17 @@
 // The engine and its calls: document 01, 'Engine and ledger' and 'Who can be turned away'. Every call takes the engine by value and gives it back beside
 // its answer; each contract is `Answers` of specs/Engine.antt at that call: refusal, answer, what is held afterwards and the outbox.
 use crate::advertisement;
+use crate::advertisement::ActiveAdvertisement;
 use crate::advertisement::Advertisements;
 use crate::interface;
 use crate::interface::Interfaces;
 use crate::news;
 use crate::refresh_timer::RefreshTimer;
 use crate::refusals;
+use crate::replies::serve_all;
 use crate::replies::soonest_in;
 use crate::replies::waiting_in;
+use crate::replies::waiting_of;
 use crate::send;
 use crate::source;
 use crate::subscription;
@@ -16,11 +19,16 @@ use crate::subscription::ActiveSearches;
 ghost use mathlib.Core.Path.{_≡_};
 ghost use mathlib.Core.Bool.{cond};
 ghost use mathlib.Core.List.{[]};
-ghost use lib.ListN.{length};
-ghost use Rattle.engine.specs.Held.{held, holding};
+ghost use Prim.Native.Nat.{_≤_};
+ghost use lib.ListN.{length, take};
+ghost use Rattle.engine.specs.Sizes.{outboxSize};
+ghost use Rattle.engine.specs.Records.{byebyeOn};
+ghost use Rattle.engine.specs.Layout.{Sent};
+ghost use Rattle.engine.specs.Replies.{drops};
+ghost use Rattle.engine.specs.Held.{held, holding, advertisementOf};
 ghost use Rattle.engine.specs.Calls.{NewLink, DeletedLink, NewAddress, DeletedAddress, Subscribe, Advertise, Deadvertise, Refresh, Datagram, Timeout, ResetTimer, zeros};
 ghost use Rattle.engine.specs.Engine.{refusedBy, answerWith, tellsNobody, Answers, Begins};
-ghost use Rattle.engine.specs.Tallies.{counted, toldBy, leaves};
+ghost use Rattle.engine.specs.Tallies.{counted, toldBy, leaves, sends};
 
 // All that the engine holds between two calls.
 pub struct Engine {
@@ -149,6 +157,55 @@ fn leaving(held: bool, outcome: u32) -> Tally
     }
 }
 
+// A name was replaced or has left, and its waiting reply with it.
+fn dropping(dropped: usize) -> Tally
+    ensures { λ r. ⌜ (counted r ≡ drops dropped) × (toldBy r ≡ tellsNobody) ⌝ }
+{
+    Tally {
+        matched: 0,
+        joined: 0,
+        alone: 0,
+        group: 0,
+        dropped: dropped,
+        mask: 0,
+        told: 0,
+        leave: 0,
+    }
+}
+
+// Replies were sent, alone and to the group.
+fn sending(alone: usize, group: usize) -> Tally
+    ensures { λ r. ⌜ (counted r ≡ sends alone group) × (toldBy r ≡ tellsNobody) ⌝ }
+{
+    Tally {
+        matched: 0,
+        joined: 0,
+        alone: alone,
+        group: group,
+        dropped: 0,
+        mask: 0,
+        told: 0,
+        leave: 0,
+    }
+}
+
+// The byebyes of a name that is held.
+fn byebye_if(
+    outbox: &mut [u8],
+    known: bool,
+    up: [u32; 6],
+    n: usize,
+    a: ActiveAdvertisement,
+) -> usize
+    requires { ⌜ outboxSize ≤ length (now outbox) ⌝ }
+    ensures { λ r. ⌜ Sent (cond known (byebyeOn (take n up) (advertisementOf a)) []) (now (outbox .entry)) (now (outbox .exit)) r ⌝ }
+{
+    if known {
+        return send::send_byebye(outbox, up, n, a);
+    }
+    0
+}
+
 // An engine that holds nothing yet.
 fn empty(random_seed: u32, refresh_timer: RefreshTimer) -> Engine
     ensures { λ r. ⌜ held r ≡ holding «random_seed» «refresh_timer» [] [] [] ⌝ }
@@ -255,5 +312,79 @@ impl Engine {
         let mut e = self;
         e.interfaces = next;
         accepted(e, 0, nothing())
+    }
+
+    // Announces a service under a name, now and at each refresh. A name that is held is replaced, and its waiting reply dropped.
+    pub fn advertise(self, name: &[u8], kind: &[u8], location: &[u8], outbox: &mut [u8]) -> Answered
+        ensures { λ r. ⌜ Answers self (Advertise (now (name .entry)) (now (kind .entry)) (now (location .entry)) (length (now (outbox .entry)))) (now (outbox .entry)) (now (outbox .exit)) r ⌝ }
+    {
+        let table = self.advertisements;
+        let spot = advertisement::spot_of(table, name);
+        let count = advertisement::count_of(table);
+        let number = refusals::of_advertise(spot.known, count, outbox.len(), name, kind, location);
+        if number != 0 {
+            return refused(self, number);
+        }
+        let up = source::of_up_links(self.interfaces);
+        let from = up.addresses;
+        let k = send::send_alive(outbox, from, up.count, kind, name, location);
+        let dropped = waiting_of(table, name);
+        let next = advertisement::advertise(table, name, kind, location);
+        let mut e = self;
+        e.advertisements = next;
+        accepted(e, k, dropping(dropped))
+    }
+
+    // Says that a service has gone. An unknown name does nothing.
+    pub fn deadvertise(self, name: &[u8], outbox: &mut [u8]) -> Answered
+        ensures { λ r. ⌜ Answers self (Deadvertise (now (name .entry)) (length (now (outbox .entry)))) (now (outbox .entry)) (now (outbox .exit)) r ⌝ }
+    {
+        let number = refusals::of_room(outbox.len());
+        if number != 0 {
+            return refused(self, number);
+        }
+        let table = self.advertisements;
+        let up = source::of_up_links(self.interfaces);
+        let from = up.addresses;
+        let held = advertisement::held_at(table, name);
+        let entry = held.entry;
+        let k = byebye_if(outbox, held.known, from, up.count, entry);
+        let dropped = waiting_of(table, name);
+        let next = advertisement::left(table, name);
+        let mut e = self;
+        e.advertisements = next;
+        accepted(e, k, dropping(dropped))
+    }
+
+    // Sends the refresh records, if the salvo is due, and the replies that are due.
+    pub fn handle_timeout(self, time: u64, outbox: &mut [u8]) -> Answered
+        ensures { λ r. ⌜ Answers self (Timeout time (length (now (outbox .entry)))) (now (outbox .entry)) (now (outbox .exit)) r ⌝ }
+    {
+        let number = refusals::of_timeout(time, outbox.len());
+        if number != 0 {
+            return refused(self, number);
+        }
+        let table = self.advertisements;
+        let timer = self.refresh_timer;
+        let searches = self.active_searches;
+        let up = source::of_up_links(self.interfaces);
+        let from = up.addresses;
+        let k = send::send_timeout(
+            outbox,
+            from,
+            up.count,
+            timer.next_salvo <= time,
+            time,
+            searches,
+            table,
+        );
+        let served = serve_all(table, time);
+        let rolled = timer.updated(time);
+        let next_table = served.table;
+        let next_timer = rolled.timer;
+        let mut e = self;
+        e.advertisements = next_table;
+        e.refresh_timer = next_timer;
+        accepted(e, k, sending(served.alone, served.group))
     }
 }

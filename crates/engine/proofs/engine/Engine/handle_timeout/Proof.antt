@@ -1,0 +1,104 @@
+-- `Engine::handle_timeout` meets its contract: refused, or with the refresh records and the due replies sent, the replies ended and the timer rolled.
+use Prim.Native.Nat.{ℕ}
+use mathlib.Core.Path.{_≡_, refl, sym, _∙_, ap}
+use mathlib.Core.Bool.{Bool, cond, _||_}
+use mathlib.Core.List.{List, [], _∷_, map}
+use Rattle.engine.specs.Sizes.{outboxSize, locationMax, timeMax}
+use Rattle.message.specs.Build.{typeMax, nameMax}
+use Rattle.engine.specs.declared.refresh_timer.RefreshTimer.{RefreshTimer}
+use Rattle.engine.specs.declared.refresh_timer.TimerAnswer.{TimerAnswer}
+use Rattle.engine.specs.RefreshTimer.{timerStep}
+use Rattle.engine.specs.Held.{Held, Link, Text, Advertisement, held, holding, linksOf, subscriptionsOf, advertisementsOf, advertisementOf}
+use Rattle.engine.specs.Links.{contextAfter, upAddresses}
+use Rattle.engine.specs.Records.{records, NotifyFrom, flat, byebyeOn, refreshRecords, timeoutOn}
+use Rattle.engine.specs.Replies.{result, results, drops, sumOf, aloneAt, groupAt}
+use Rattle.engine.specs.Tallies.{sends}
+use Rattle.engine.specs.Refusals.{refusal, checks, over}
+use Rattle.engine.specs.Engine.{turned, namesOf, tells}
+use lib.Dec.{leb}
+use lib.ListN.{length, take}
+use native.Mathlib.Omega.{arith}
+use borrow.Author.Tests.{ltb-false}
+use Rattle.engine.proofs.Accepted.{passed}
+use Rattle.engine.proofs.Timer.{timer-accepted}
+use Rattle.engine.proofs.Answering as answering
+use Rattle.engine.specs.Calls.{Timeout, acts}
+use borrow.Author.Needs.{needs}
+use Rattle.engine.proofs.engine.Engine.handle_timeout.Statement.{statement}
+use Rattle.engine.proofs.engine.Engine.handle_timeout.Tie as tie
+
+of-timeout-requires : tie.Need-of-timeout-requires
+of-timeout-requires c κs = search needs
+
+refused-requires : tie.Need-refused-requires
+refused-requires c κs = search needs
+
+returns : tie.Need-returns
+unfolding turned namesOf
+returns c =
+    let a = c .before .before .before .before .args in
+    answering.refused-answers (a .self) (Timeout (a .time) (length (a .outbox .now))) (a .outbox .now) (a .outbox .now) (c .refused .result) (c .before .before .of-timeout .result) (sym (c .before .before .of-timeout .ensures _ _ refl))
+    (c .before .if1 .taken) (c .refused .ensures .0) (c .refused .ensures .1) refl
+
+of-up-links-requires : tie.Need-of-up-links-requires
+of-up-links-requires c κs = search needs
+
+send-timeout-requires : tie.Need-send-timeout-requires
+unfolding checks namesOf
+send-timeout-requires c κs =
+    let a = c .before .before .before .before .before .before .before .before .before .before .args in
+    let h = held (a .self) in
+    let p = passed (h .context) (namesOf h (Timeout (a .time) (length (a .outbox .now)))) (Timeout (a .time) (length (a .outbox .now))) ((sym (c .before .before .before .before .before .before .before .before .of-timeout .ensures _ _ refl)) ∙ c .before .before .before .before .before .before .before .if1 .left) in
+    omega (arith, ltb-false (length (a .outbox .now)) outboxSize (p .1 .0))
+
+serve-all-requires : tie.Need-serve-all-requires
+serve-all-requires c κs = search needs
+
+updated-requires : tie.Need-updated-requires
+updated-requires c κs = search needs
+
+sending-requires : tie.Need-sending-requires
+sending-requires c κs = search needs
+
+accepted-requires : tie.Need-accepted-requires
+accepted-requires c κs = search needs
+
+same-length : tie.Need-same-length
+same-length c = search needs
+
+returns-2 : tie.Need-returns-2
+unfolding turned namesOf held contextAfter acts result results records tells checks refreshRecords
+returns-2 c =
+    let a = c .before .before .before .before .before .before .before .before .before .before .before .before .before .before .before .before .before .before .before .args in
+    let e = a .self in
+    let h = held e in
+    let number = (sym (c .before .before .before .before .before .before .before .before .before .before .before .before .before .before .before .before .before .of-timeout .ensures _ _ refl)) ∙ c .before .before .before .before .before .before .before .before .before .before .before .before .before .before .before .before .if1 .left in
+    let p = passed (h .context) (namesOf h (Timeout (a .time) (length (a .outbox .now)))) (Timeout (a .time) (length (a .outbox .now))) number in
+    let up = c .before .before .before .before .before .before .before .before .before .before .before .before .of-up-links .ensures .held in
+    let s = c .before .before .before .before .before .serve-all .ensures in
+    let as′ = advertisementsOf (e .advertisements) in
+    let timer = ap (λ (t : TimerAnswer). t .timer) (c .before .before .before .before .updated .ensures)
+    ∙ timer-accepted (a .time) (e .«refresh_timer») (timerStep (e .«refresh_timer») (a .time)) (omega (arith, ltb-false timeMax (a .time) (p .0))) in
+    answering.done-answers e _ (Timeout (a .time) (length (a .outbox .now))) (c .before .before .before .before .before .before .before .before .send-timeout .result) _ _ number
+    (ap (λ (t : RefreshTimer). holding (e .«random_seed») t (linksOf (e .interfaces)) (subscriptionsOf (e .«active_searches»)) (advertisementsOf (c .before .before .before .before .before .serve-all .result .table))) timer
+    ∙ ap (λ (l : List Advertisement). holding (e .«random_seed») (timerStep (e .«refresh_timer») (a .time)) (linksOf (e .interfaces)) (subscriptionsOf (e .«active_searches»)) l) (s .table))
+    (c .before .sending .ensures .0 ∙ ap (λ (x : ℕ). sends x (c .before .before .before .before .before .serve-all .result .group)) (s .first) ∙ ap (sends (sumOf (aloneAt (a .time)) as′)) (s .second)
+    ∙ sym (answering.plus-zeros (sends (sumOf (aloneAt (a .time)) as′) (sumOf (groupAt (a .time)) as′)))) (c .before .sending .ensures .1)
+    (answering.sent-as (c .before .before .before .before .before .before .before .before .send-timeout .ensures) (ap (λ (l : List ℕ). timeoutOn l (leb (e .«refresh_timer» .«next_salvo») (a .time)) (a .time) (subscriptionsOf (e .«active_searches»)) as′) up))
+    (c .accepted .ensures .0) (c .accepted .ensures .1)
+
+pub handle-timeout-spec : {M : Type 1} → statement M
+handle-timeout-spec =
+    tie.close
+    (tie.spec
+    of-timeout-requires
+    refused-requires
+    returns
+    of-up-links-requires
+    send-timeout-requires
+    serve-all-requires
+    updated-requires
+    sending-requires
+    accepted-requires
+    same-length
+    returns-2)

@@ -1,8 +1,10 @@
 // The engine and its calls: document 01, 'Engine and ledger' and 'Who can be turned away'. Every call takes the engine by value and gives it back beside
 // its answer; each contract is `Answers` of specs/Engine.antt at that call: refusal, answer, what is held afterwards and the outbox.
+use crate::address;
 use crate::advertisement;
 use crate::advertisement::ActiveAdvertisement;
 use crate::advertisement::Advertisements;
+use crate::flags::Flags;
 use crate::interface;
 use crate::interface::Interfaces;
 use crate::news;
@@ -22,10 +24,10 @@ ghost use mathlib.Core.List.{[]};
 ghost use Prim.Native.Nat.{_≤_};
 ghost use lib.ListN.{length, take};
 ghost use Rattle.engine.specs.Sizes.{outboxSize};
-ghost use Rattle.engine.specs.Records.{byebyeOn};
+ghost use Rattle.engine.specs.Records.{flat, byebyeOn, allFrom};
 ghost use Rattle.engine.specs.Layout.{Sent};
 ghost use Rattle.engine.specs.Replies.{drops};
-ghost use Rattle.engine.specs.Held.{held, holding, advertisementOf};
+ghost use Rattle.engine.specs.Held.{held, holding, advertisementOf, advertisementsOf, subscriptionsOf};
 ghost use Rattle.engine.specs.Calls.{NewLink, DeletedLink, NewAddress, DeletedAddress, Subscribe, Advertise, Deadvertise, Refresh, Datagram, Timeout, ResetTimer, zeros};
 ghost use Rattle.engine.specs.Engine.{refusedBy, answerWith, tellsNobody, Answers, Begins};
 ghost use Rattle.engine.specs.Tallies.{counted, toldBy, leaves, sends};
@@ -202,6 +204,41 @@ fn byebye_if(
 {
     if known {
         return send::send_byebye(outbox, up, n, a);
+    }
+    0
+}
+
+// What goes out from the addresses of a link that turns up.
+fn send_if_up(
+    outbox: &mut [u8],
+    turns: bool,
+    addresses: [u32; 2],
+    n: usize,
+    searches: ActiveSearches,
+    t: Advertisements,
+) -> usize
+    requires { ⌜ outboxSize ≤ length (now outbox) ⌝ }
+    ensures { λ r. ⌜ Sent (cond turns (flat (allFrom (subscriptionsOf searches) (advertisementsOf t)) (take n addresses)) []) (now (outbox .entry)) (now (outbox .exit)) r ⌝ }
+{
+    if turns {
+        return send::send_to_link(outbox, addresses, n, searches, t);
+    }
+    0
+}
+
+// What goes out from an address that is stored on an up link.
+fn send_if_stored(
+    outbox: &mut [u8],
+    stored: bool,
+    address: u32,
+    searches: ActiveSearches,
+    t: Advertisements,
+) -> usize
+    requires { ⌜ outboxSize ≤ length (now outbox) ⌝ }
+    ensures { λ r. ⌜ Sent (cond stored (allFrom (subscriptionsOf searches) (advertisementsOf t) address) []) (now (outbox .entry)) (now (outbox .exit)) r ⌝ }
+{
+    if stored {
+        return send::send_to_address(outbox, address, searches, t);
     }
     0
 }
@@ -386,5 +423,59 @@ impl Engine {
         e.advertisements = next_table;
         e.refresh_timer = next_timer;
         accepted(e, k, sending(served.alone, served.group))
+    }
+
+    // A link is there, or is up or down. The host has tried to join the group on a new one and hands in the outcome.
+    pub fn new_link(self, index: u32, flags: u32, outcome: u32, outbox: &mut [u8]) -> Answered
+        ensures { λ r. ⌜ Answers self (NewLink index flags outcome (length (now (outbox .entry)))) (now (outbox .entry)) (now (outbox .exit)) r ⌝ }
+    {
+        let links = self.interfaces;
+        let held = interface::held_at(links, index);
+        let multicast = Flags(flags).is_multicast();
+        let count = interface::count_of(links);
+        let number = refusals::of_new_link(
+            multicast,
+            held.known,
+            count,
+            index,
+            outcome,
+            outbox.len(),
+        );
+        if number != 0 {
+            return refused(self, number);
+        }
+        let link = held.link;
+        let from = link.addresses;
+        let searches = self.active_searches;
+        let table = self.advertisements;
+        let turns = news::turns_up(links, index, flags);
+        let k = send_if_up(outbox, turns, from, link.count, searches, table);
+        let next = news::link_told(links, index, flags);
+        let mut e = self;
+        e.interfaces = next;
+        accepted(e, k, nothing())
+    }
+
+    // An address is there.
+    pub fn new_address(self, index: u32, address: &[u8], outbox: &mut [u8]) -> Answered
+        ensures { λ r. ⌜ Answers self (NewAddress index (now (address .entry)) (length (now (outbox .entry)))) (now (outbox .entry)) (now (outbox .exit)) r ⌝ }
+    {
+        let links = self.interfaces;
+        let held = interface::held_at(links, index);
+        let link = held.link;
+        let storing = news::is_stored(links, index, address);
+        let count = address::count_of(link);
+        let number = refusals::of_new_address(storing, count, index, address, outbox.len());
+        if number != 0 {
+            return refused(self, number);
+        }
+        let searches = self.active_searches;
+        let table = self.advertisements;
+        let source = address::number_of(address);
+        let k = send_if_stored(outbox, storing & link.up, source, searches, table);
+        let next = news::address_told(links, index, address);
+        let mut e = self;
+        e.interfaces = next;
+        accepted(e, k, nothing())
     }
 }

@@ -27,6 +27,7 @@ pub mod Runs
 pub mod Announcing
 pub mod Counting
 pub mod Answering
+pub mod Hearing
 pub mod LeafLaws
 pub mod Members
 pub mod Rows
@@ -41,3 +42,5 @@ pub mod Reachable
 pub mod Messages
 pub mod Demand3
 pub mod EveryList
+pub mod Functions
+pub mod Certificate

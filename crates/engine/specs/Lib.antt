@@ -20,6 +20,7 @@ pub mod Replies
 pub mod NameTable
 pub mod Passes
 pub mod Asking
+pub mod Reading
 pub mod Refusals
 pub mod Engine
 pub mod Tallies

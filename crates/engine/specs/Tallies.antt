@@ -17,3 +17,11 @@ leaves outcome = record { mask = 0; number = 0; leave = outcome }
 -- replies were sent, alone and to the group
 abbrev pub sends : ℕ → ℕ → Counts
 sends alone group = record { matched = 0; joined = 0; alone = alone; group = group; dropped = 0 }
+
+-- a search matched, and joined replies that wait
+abbrev pub asks : ℕ → ℕ → Counts
+asks matched joined = record { matched = matched; joined = joined; alone = 0; group = 0; dropped = 0 }
+
+-- subscriptions are told
+abbrev pub tellsMask : ℕ → ℕ → Told
+tellsMask mask number = record { mask = mask; number = number; leave = 0 }

@@ -4,12 +4,18 @@ use crate::address;
 use crate::advertisement;
 use crate::advertisement::ActiveAdvertisement;
 use crate::advertisement::Advertisements;
+use crate::advertisement::Endpoint;
 use crate::flags::Flags;
 use crate::interface;
 use crate::interface::Interfaces;
 use crate::news;
+use crate::reading::Reading;
+use crate::reading::Subject;
+use crate::reading::number_of;
+use crate::reading::reading_of;
 use crate::refresh_timer::RefreshTimer;
 use crate::refusals;
+use crate::replies::searched;
 use crate::replies::serve_all;
 use crate::replies::soonest_in;
 use crate::replies::waiting_in;
@@ -18,19 +24,26 @@ use crate::send;
 use crate::source;
 use crate::subscription;
 use crate::subscription::ActiveSearches;
+use crate::subscription::Subscribers;
+use text::white::Place;
 ghost use mathlib.Core.Path.{_≡_};
 ghost use mathlib.Core.Bool.{cond};
 ghost use mathlib.Core.List.{[]};
 ghost use Prim.Native.Nat.{_≤_};
 ghost use lib.ListN.{length, take};
-ghost use Rattle.engine.specs.Sizes.{outboxSize};
+ghost use Rattle.message.specs.Parse.{parsed};
+ghost use Rattle.message.specs.declared.Message.the-variants.{Search};
+ghost use Rattle.engine.specs.Sizes.{outboxSize, timeMax};
+ghost use Rattle.engine.specs.Reading.{readingOf};
+ghost use Rattle.engine.specs.declared.reading.Reading.the-variants.{Of};
+ghost use Rattle.engine.specs.declared.reading.Subject.the-variants.{Notice};
 ghost use Rattle.engine.specs.Records.{flat, byebyeOn, allFrom};
 ghost use Rattle.engine.specs.Layout.{Sent};
 ghost use Rattle.engine.specs.Replies.{drops};
 ghost use Rattle.engine.specs.Held.{held, holding, advertisementOf, advertisementsOf, subscriptionsOf};
 ghost use Rattle.engine.specs.Calls.{NewLink, DeletedLink, NewAddress, DeletedAddress, Subscribe, Advertise, Deadvertise, Refresh, Datagram, Timeout, ResetTimer, zeros};
 ghost use Rattle.engine.specs.Engine.{refusedBy, answerWith, tellsNobody, Answers, Begins};
-ghost use Rattle.engine.specs.Tallies.{counted, toldBy, leaves, sends};
+ghost use Rattle.engine.specs.Tallies.{counted, toldBy, leaves, sends, asks, tellsMask};
 
 // All that the engine holds between two calls.
 pub struct Engine {
@@ -187,6 +200,38 @@ fn sending(alone: usize, group: usize) -> Tally
         dropped: 0,
         mask: 0,
         told: 0,
+        leave: 0,
+    }
+}
+
+// A search matched, and joined replies that wait.
+fn asking(matched: usize, joined: usize) -> Tally
+    ensures { λ r. ⌜ (counted r ≡ asks matched joined) × (toldBy r ≡ tellsNobody) ⌝ }
+{
+    Tally {
+        matched: matched,
+        joined: joined,
+        alone: 0,
+        group: 0,
+        dropped: 0,
+        mask: 0,
+        told: 0,
+        leave: 0,
+    }
+}
+
+// Subscriptions are told.
+fn telling(s: Subscribers) -> Tally
+    ensures { λ r. ⌜ (counted r ≡ zeros) × (toldBy r ≡ tellsMask (s .mask) (s .told)) ⌝ }
+{
+    Tally {
+        matched: 0,
+        joined: 0,
+        alone: 0,
+        group: 0,
+        dropped: 0,
+        mask: s.mask,
+        told: s.told,
         leave: 0,
     }
 }
@@ -477,5 +522,74 @@ impl Engine {
         let mut e = self;
         e.interfaces = next;
         accepted(e, k, nothing())
+    }
+
+    // A search: it opens, joins or shares the waiting replies of the names that it matches.
+    fn on_search(
+        self,
+        time: u64,
+        sender: Endpoint,
+        receiver: u32,
+        datagram: &[u8],
+        place: Place,
+        mx: u8,
+    ) -> Answered
+        requires { ⌜ (time ≤ timeMax) × (parsed (now datagram) ≡ Search place mx) ⌝ }
+        ensures { λ r. ⌜ Answers self (Datagram time sender receiver (now (datagram .entry))) [] [] r ⌝ }
+    {
+        let target = message::field(datagram, place);
+        let number = refusals::of_search(time, mx, target.len());
+        if number != 0 {
+            return refused(self, number);
+        }
+        let asked = searched(
+            self.advertisements,
+            self.random_seed,
+            time,
+            target,
+            mx,
+            sender,
+            receiver,
+        );
+        let next = asked.table;
+        let mut e = self;
+        e.advertisements = next;
+        accepted(e, 0, asking(asked.matched, asked.joined))
+    }
+
+    // Notice of a type: the subscriptions that match it are told.
+    fn on_notice(
+        self,
+        time: u64,
+        sender: Endpoint,
+        receiver: u32,
+        datagram: &[u8],
+        kind: Place,
+    ) -> Answered
+        requires { ⌜ (time ≤ timeMax) × (readingOf (parsed (now datagram)) ≡ Of (Notice kind)) ⌝ }
+        ensures { λ r. ⌜ Answers self (Datagram time sender receiver (now (datagram .entry))) [] [] r ⌝ }
+    {
+        let told = subscription::told_of(self.active_searches, message::field(datagram, kind));
+        accepted(self, 0, telling(told))
+    }
+
+    // A datagram has come from `sender`, at the address `receiver`.
+    pub fn on_data(self, time: u64, sender: Endpoint, receiver: u32, datagram: &[u8]) -> Answered
+        ensures { λ r. ⌜ Answers self (Datagram time sender receiver (now (datagram .entry))) [] [] r ⌝ }
+    {
+        if refusals::TIME_MAX < time {
+            return refused(self, refusals::TIME_LATE);
+        }
+        let said = message::parse(datagram);
+        let read = reading_of(said);
+        let Reading::Of(subject) = read else {
+            return refused(self, number_of(said));
+        };
+        match subject {
+            Subject::Search(place, mx) => {
+                self.on_search(time, sender, receiver, datagram, place, mx)
+            }
+            Subject::Notice(kind) => self.on_notice(time, sender, receiver, datagram, kind),
+        }
     }
 }

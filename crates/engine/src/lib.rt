@@ -13,6 +13,7 @@ pub mod interface;
 mod location;
 mod news;
 mod outbox;
+pub mod reading;
 pub mod refresh_timer;
 mod refusals;
 mod replies;

@@ -4,13 +4,18 @@ use text::good;
 ghost use mathlib.Core.Path.{_≡_};
 ghost use Prim.Native.Nat.{ℕ};
 ghost use mathlib.Core.Bool.{cond};
+ghost use mathlib.Core.List.{List};
 ghost use lib.ListN.{length};
 ghost use Rattle.engine.specs.Sizes.{outboxSize};
 ghost use Rattle.engine.specs.Held.{Text, Context, byIndex};
 ghost use Rattle.engine.specs.Table.{known};
 ghost use Rattle.engine.specs.Flags.{isMulticast};
 ghost use Rattle.engine.specs.Links.{addressesOf, linkAt, stores};
-ghost use Rattle.engine.specs.Calls.{NewLink, DeletedLink, NewAddress, DeletedAddress, Subscribe, Advertise, Deadvertise, Refresh, Timeout, ResetTimer};
+ghost use Rattle.engine.specs.Calls.{NewLink, DeletedLink, NewAddress, DeletedAddress, Subscribe, Advertise, Deadvertise, Refresh, Datagram, Timeout, ResetTimer};
+ghost use Rattle.message.specs.Parse.{parsed, fieldAt};
+ghost use Rattle.message.specs.declared.Message.the-variants.{Search};
+ghost use Rattle.text.specs.declared.white.Place.{Place};
+ghost use Rattle.engine.specs.declared.advertisement.Endpoint.{Endpoint};
 ghost use Rattle.engine.specs.Refusals.{Names, refusal, newRefusal};
 
 // The numbers, by what each refuses.
@@ -156,4 +161,12 @@ pub fn of_deleted_address(index: u32, address: &[u8]) -> u32
         0,
     );
     first(index == 0, INDEX_ZERO, formed)
+}
+
+// A search with this MX and a target of this length.
+pub fn of_search(time: u64, mx: u8, target: usize) -> u32
+    ensures { λ r. ⌜ ((x : Context) (n : Names) (sender : Endpoint) (receiver : ℕ) (s : List ℕ) (st : Place) → parsed s ≡ Search st mx → length (fieldAt s st) ≡ target → r ≡ refusal x n (Datagram time sender receiver s)) ⌝ }
+{
+    let long = first(80 < target, TARGET_OVER_SIZE, 0);
+    first(TIME_MAX < time, TIME_LATE, first(mx == 0, WAIT_ZERO, long))
 }

@@ -53,7 +53,7 @@ pub enum Message {
 }
 
 // What stands at a place; nothing of it where the datagram has ended.
-fn field(s: &[u8], place: Place) -> &[u8]
+pub fn field(s: &[u8], place: Place) -> &[u8]
     ensures { λ r. ⌜ now r ≡ fieldAt (now (s .entry)) place ⌝ }
 {
     let start = place.start;

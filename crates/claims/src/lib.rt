@@ -1,0 +1,22 @@
+// The claims about the engine as a whole, each the contract of a function that does nothing: the check names them as proved.
+ghost use Prim.Native.Nat.{ℕ};
+ghost use mathlib.Core.Path.{_≡_};
+ghost use mathlib.Core.Bool.{true};
+ghost use mathlib.Core.List.{List};
+ghost use Rattle.engine.specs.Calls.{Call};
+ghost use Rattle.engine.specs.Claim.{Log, Claim};
+ghost use Rattle.engine.specs.StarCases.{allHold, starCases};
+ghost use Rattle.engine.specs.declared.engine.Engine.{Engine};
+ghost use Rattle.engine.specs.declared.engine.Answer.{Answer};
+ghost use Rattle.engine.proofs.Functions.{News, Gives};
+
+// Demand 3: it holds of every list of public calls, whatever their arguments, whose answers are what the functions' contracts give.
+// The claim itself is stated in engine/specs/Claim.antt.
+pub fn demand_three()
+    ensures { λ _. ⌜ ((seed time : ℕ) (calls : List Call) (answers : List Answer) (last : Engine) (log : Log News Gives seed time calls answers last) → Claim log) ⌝ }
+{}
+
+// Document 01's ★ cases, one table.
+pub fn star_cases()
+    ensures { λ _. ⌜ allHold starCases ≡ true ⌝ }
+{}

@@ -1,0 +1,102 @@
+-- Laws of calls that a line asks for: the same call under other names of its arguments, and what a reply promises.
+use mathlib.Core.Path.{_≡_, refl, sym, _∙_, ap, subst}
+use mathlib.Core.Bool.{Bool, true, false}
+use mathlib.Core.List.{List, [], _∷_, _++_}
+use Prim.Native.Nat.{ℕ}
+use lib.Dec.{eqb}
+use lib.ListN.{length, take, drop}
+use native.Mathlib.Omega.{arith}
+use Rattle.console.specs.Buffer.{Filled}
+use Rattle.engine.specs.Calls.{Call, NewAddress, DeletedAddress, Advertise, Datagram}
+use Rattle.engine.specs.declared.advertisement.Endpoint.{Endpoint}
+use Rattle.engine.specs.Records.{Record}
+use Rattle.engine.specs.Layout.{layout, written}
+use Rattle.engine.specs.Engine.{Answers, Begins, step}
+use Rattle.engine.specs.declared.engine.Engine.{Engine}
+use Rattle.engine.specs.declared.engine.Answered.{Answered}
+use Rattle.console.specs.declared.command.Command.{Command}
+use Rattle.console.specs.declared.command.Command.the-variants as line
+use Rattle.engine.specs.Held.{held}
+use Rattle.engine.specs.declared.engine.Answer.{Answer}
+use Rattle.dialogue.specs.Asking.{Asked, asked}
+use Rattle.dialogue.specs.Obeying.{Unheard, Begun, Called, Outcome, Obeys, answered}
+use Rattle.dialogue.specs.declared.session.Session.{Session}
+use Rattle.dialogue.specs.declared.session.Reply.{Reply}
+
+pub as-call : {e : Engine} {c c′ : Call} {o o′ : List ℕ} {r : Answered} → Answers e c o o′ r → c ≡ c′ → Answers e c′ o o′ r
+as-call {e} {c} {c′} {o} {o′} {r} a p = subst (λ (x : Call). Answers e x o o′ r) p a
+
+pub same-texts : {a a′ b b′ c c′ : List ℕ} (room : ℕ) → a ≡ a′ → b ≡ b′ → c ≡ c′ → Advertise a b c room ≡ Advertise a′ b′ c′ room
+same-texts {a} {a′} {b} {b′} {c} {c′} room p q r =
+    ap (λ (x : List ℕ). Advertise x b c room) p ∙ ap (λ (x : List ℕ). Advertise a′ x c room) q ∙ ap (λ (x : List ℕ). Advertise a′ b′ x room) r
+
+pub same-datagram : {time receiver : ℕ} {from from′ : Endpoint} {d d′ : List ℕ} → from ≡ from′ → d ≡ d′ → Datagram time from receiver d ≡ Datagram time from′ receiver d′
+same-datagram {time} {receiver} {from} {from′} {d} {d′} p q =
+    ap (λ (x : Endpoint). Datagram time x receiver d) p ∙ ap (Datagram time from′ receiver) q
+
+pub same-new : {index room : ℕ} {d d′ : List ℕ} → d ≡ d′ → NewAddress index d room ≡ NewAddress index d′ room
+same-new {index} {room} p = ap (λ (x : List ℕ). NewAddress index x room) p
+
+pub same-deleted : {index : ℕ} {d d′ : List ℕ} → d ≡ d′ → DeletedAddress index d ≡ DeletedAddress index d′
+same-deleted {index} p = ap (DeletedAddress index) p
+
+-- the front of a buffer that was filled
+pub front-of : {text buffer front : List ℕ} {n room : ℕ} → front ≡ take n buffer → Filled text buffer n → length buffer ≡ room → front ≡ take room text
+front-of {text} f g h = f ∙ g .front ∙ ap (λ (k : ℕ). take k text) h
+
+nothing-in-front : (a b : List ℕ) → [] ≡ a ++ b → a ≡ []
+nothing-in-front [] b p = refl
+nothing-in-front (x ∷ a) b p = absurd (omega (arith, ap length p))
+
+written-nothing : (rs : List Record) (o : List ℕ) → [] ≡ written rs [] → o ≡ written rs o
+unfolding written
+written-nothing rs o p = rw (nothing-in-front (layout rs) (drop (length (layout rs)) []) p)
+
+-- a call that is lent no outbox leaves any outbox as it is
+pub lent-none : {e : Engine} {c : Call} {r : Answered} (o : List ℕ) → Answers e c [] [] r → Answers e c o o r
+lent-none o a = record { answer = a .answer; engine = a .engine; sent = written-nothing _ o (a .sent); untouched = a .untouched }
+
+-- a call was made, and its answer is the reply's
+pub called : {e : Engine} {c : Call} {o o′ : List ℕ} {a : Answered} {r : Reply} → Answers e c o o′ a →
+    (r .session .begun ≡ true) × (r .session .engine ≡ a .engine) × (r .heard ≡ true) × (r .answer ≡ a .answer) → Called e c o o′ r
+called a (begun, engine, heard, answer) = record {
+  answers = record {
+    answer = answer ∙ a .answer;
+    engine = ap held engine ∙ a .engine;
+    sent = a .sent;
+    untouched = λ n. engine ∙ a .untouched n;
+  };
+  begun = begun;
+  heard = heard;
+}
+
+-- the command is this one, which asks this
+pub obeyed : (s : List ℕ) (room : ℕ) {k v : Command} {x : Asked} {b : Bool} {n : Session} {o o′ : List ℕ} {r : Reply} →
+    k ≡ v → asked s room v ≡ x → Outcome b x n o o′ r → Obeys b (asked s room k) n o o′ r
+obeyed s room {k} {v} {x} {b} {n} {o} {o′} {r} p q u = subst (λ (y : Asked). Obeys b y n o o′ r) (sym q ∙ ap (asked s room) (sym p)) (record { outcome = u })
+
+-- an engine has begun, or not
+pub begun-as : {b b′ : Bool} {x : Asked} {n : Session} {o o′ : List ℕ} {r : Reply} → b ≡ b′ → Obeys b′ x n o o′ r → Obeys b x n o o′ r
+begun-as {b} {b′} {x} {n} {o} {o′} {r} p u = subst (λ (y : Bool). Obeys y x n o o′ r) (sym p) u
+
+-- before an engine has begun only `new` is heard
+pub first-unheard : (k : Command) → ((seed time : ℕ) → k ≡ line.New seed time → ⊥) → (s : List ℕ) (room : ℕ) {n : Session} {o : List ℕ} {r : Reply} →
+    Unheard n o o r → Obeys false (asked s room k) n o o r
+unfolding asked
+first-unheard line.Unreadable neither s room u = record { outcome = u }
+first-unheard (line.New seed time) neither s room u = absurd (neither seed time refl)
+first-unheard (line.NewLink index flags outcome) neither s room u = record { outcome = u }
+first-unheard (line.DeletedLink index outcome) neither s room u = record { outcome = u }
+first-unheard (line.NewAddress index address) neither s room u = record { outcome = u }
+first-unheard (line.DeletedAddress index address) neither s room u = record { outcome = u }
+first-unheard (line.Subscribe kind) neither s room u = record { outcome = u }
+first-unheard (line.Advertise name kind location) neither s room u = record { outcome = u }
+first-unheard (line.Deadvertise name) neither s room u = record { outcome = u }
+first-unheard line.Refresh neither s room u = record { outcome = u }
+first-unheard (line.Datagram time sender port receiver text) neither s room u = record { outcome = u }
+first-unheard (line.Timeout time) neither s room u = record { outcome = u }
+first-unheard (line.Reset time) neither s room u = record { outcome = u }
+first-unheard (line.Lend size) neither s room u = record { outcome = u }
+first-unheard (line.HexDatagram time sender port receiver digits) neither s room u = record { outcome = u }
+first-unheard (line.NewHexAddress index digits) neither s room u = record { outcome = u }
+first-unheard (line.DeletedHexAddress index digits) neither s room u = record { outcome = u }

@@ -1,0 +1,3 @@
+-- Laws that the proofs of the dialogue share.
+pub mod Calling
+pub mod Outbox

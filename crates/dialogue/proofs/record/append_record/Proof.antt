@@ -1,0 +1,77 @@
+use mathlib.Core.Path.{_≡_, _∙_, ap}
+use mathlib.Core.List.{List}
+use Prim.Native.Nat.{ℕ}
+use lib.ListN.{take, drop}
+use Rattle.console.proofs.Appending as laws
+use Rattle.console.specs.Decimal.{numberThen}
+use Rattle.console.specs.Hexadecimal.{hexText}
+use Rattle.dialogue.specs.Printing.{numberAt, recordLine}
+use borrow.Author.Needs.{needs}
+use Rattle.dialogue.proofs.record.append_record.Statement.{statement}
+use Rattle.dialogue.proofs.record.append_record.Tie as tie
+use Rattle.dialogue.proofs.record.append_record.Reads as reads
+use Rattle.dialogue.proofs.record.append_record.Lts as lts
+use Rattle.console.proofs.buffer.push.Reads as push-reads
+use Rattle.console.proofs.decimal.append_number.Reads as append-number-reads
+use Rattle.console.proofs.hexadecimal.append_hex.Reads as append-hex-reads
+use Rattle.console.proofs.part.front.Reads as front-reads
+use Rattle.console.proofs.part.tail.Reads as tail-reads
+use Rattle.dialogue.proofs.record.append_head.Reads as append-head-reads
+use Rattle.dialogue.proofs.record.number_at.Reads as number-at-reads
+
+-- src/record.rt:57:9
+number-at-requires : tie.Need-number-at-requires
+number-at-requires c κs = search needs
+
+-- src/record.rt:58:9
+append-head-requires : tie.Need-append-head-requires
+append-head-requires c κs = search needs
+
+-- src/record.rt:59:9
+append-number-requires : tie.Need-append-number-requires
+append-number-requires c κs = search needs
+
+-- src/record.rt:60:31
+tail-requires : tie.Need-tail-requires
+tail-requires c κs = search needs
+
+-- src/record.rt:60:9
+front-requires : tie.Need-front-requires
+front-requires c κs = search needs
+
+-- src/record.rt:61:9
+append-hex-requires : tie.Need-append-hex-requires
+append-hex-requires c κs = search needs
+
+-- src/record.rt:62:5
+push-requires : tie.Need-push-requires
+push-requires c κs = search needs
+
+-- src/record.rt:54:1
+same-length : tie.Need-same-length
+same-length c = search needs
+
+-- src/record.rt:54:1
+returns : tie.Need-returns
+unfolding recordLine
+returns c =
+    let s = c .before .before .before .before .before .before .before .before .before .before .before .before .before .before .before .before .before .before .before .before .before .args .s .now in
+    let size = c .before .before .before .before .before .before .before .before .before .before .before .before .before .before .before .before .before .before .number-at .ensures .0 in
+    laws._⨟_ (c .before .before .before .before .before .before .before .before .before .before .before .before .before .before .before .before .append-head .ensures)
+    (laws._⨟_ (laws.text (c .before .before .before .before .before .before .before .before .before .before .before .before .append-number .ensures) (ap (numberThen 32) size))
+    (laws._⨟_ (laws.text (c .before .before .before .before .before .before .append-hex .ensures) (ap hexText (c .before .before .before .before .before .before .before .before .front .ensures ∙ ap (take (c .before .before .before .before .before .before .before .before .before .before .before .before .before .before .before .before .before .before .number-at .result)) (c .before .before .before .before .before .before .before .before .before .tail .ensures) ∙ ap (λ (n : ℕ). take n (drop 12 s)) size)))
+    (c .before .before .push .ensures)))
+
+pub append-record-spec : {M : Type 1} → statement M
+append-record-spec =
+    tie.close
+    (tie.spec
+    number-at-requires
+    append-head-requires
+    append-number-requires
+    tail-requires
+    front-requires
+    append-hex-requires
+    push-requires
+    same-length
+    returns)

@@ -1,0 +1,211 @@
+// The programs `session` and `trace` at their standard streams: chunks of the input in, lines out. What a line means and prints is in
+// crates `console` and `dialogue`. Nothing says that the input ends, so each loop has a count that falls.
+use console::command;
+use console::command::Command;
+use console::input;
+use console::input::Event;
+use console::part;
+use dialogue::answer;
+use dialogue::record;
+use dialogue::session;
+use dialogue::session::Session;
+use engine::engine::Answer;
+ghost use mathlib.Core.Path.{_≡_};
+ghost use lib.ListN.{length};
+
+// What is lent to a call, until `trace` reads `outbox`.
+const LENT: usize = 62880;
+
+// What is held between two lines: the session, how many bytes are lent, and whether records are printed.
+pub struct Running {
+    pub session: Session,
+    pub lent: usize,
+    pub traced: bool,
+}
+
+// What is held between two chunks: besides, how much of a line has come.
+pub struct Taken {
+    pub running: Running,
+    pub held: usize,
+}
+
+// Room for the longest line with both bytes of its end.
+fn no_line() -> [u8; 4098]
+    ensures { λ r. ⌜ length r ≡ 4098 ⌝ }
+{
+    [0; 4098]
+}
+
+// Prints the first `len` bytes of a buffer.
+fn print(buf: &[u8], len: usize) {
+    io::write_all(1, part::front(buf, len));
+}
+
+// The line of a record has at most 1,090 bytes: two digits for each of a message's 512 bytes, and 66 for its head.
+fn print_record(outbox: &[u8], k: usize) {
+    let mut text = io::buffer();
+    let len = record::append_record(&mut text, 0, record::record_at(outbox, k));
+    print(&text, len);
+}
+
+fn print_records(outbox: &[u8], n: usize) {
+    let mut k = 0;
+    while k < n {
+        print_record(outbox, k);
+        k += 1;
+    }
+}
+
+// What `trace` prints besides: news, records, and a mark where a call wrote what it should not.
+fn print_trace(outbox: &[u8], a: Answer) {
+    let mut text = io::buffer();
+    let len = answer::append_news(&mut text, 0, a);
+    print(&text, len);
+    print_records(outbox, a.records);
+    if !record::is_clean(outbox, a.records) {
+        io::write_all(1, b"!\n");
+    }
+}
+
+fn print_answer(outbox: &[u8], traced: bool, a: Answer) {
+    let mut text = io::buffer();
+    let len = answer::append_answer(&mut text, 0, a);
+    print(&text, len);
+    if traced {
+        print_trace(outbox, a);
+    }
+}
+
+fn command_of(line: &[u8], traced: bool) -> Command {
+    if traced {
+        return command::trace_command(line);
+    }
+    command::session_command(line)
+}
+
+// A call, or nothing that is heard.
+fn obey(r: Running, line: &[u8], c: Command, outbox: &mut [u8]) -> Running {
+    let lent = r.lent;
+    let traced = r.traced;
+    if traced {
+        record::fill(outbox);
+    }
+    let reply = session::obey(r.session, line, c, outbox);
+    let next = reply.session;
+    let a = reply.answer;
+    if reply.heard {
+        print_answer(outbox, traced, a);
+    } else {
+        io::write_all(1, b"?\n");
+    }
+    Running {
+        session: next,
+        lent: lent,
+        traced: traced,
+    }
+}
+
+fn lend(r: Running, n: usize) -> Running {
+    let s = r.session;
+    if !s.begun {
+        io::write_all(1, b"?\n");
+        return r;
+    }
+    io::write_all(1, b"ok\n");
+    let mut next = r;
+    next.lent = n;
+    next
+}
+
+// One line.
+fn on_line(r: Running, line: &[u8], outbox: &mut [u8]) -> Running {
+    let c = command_of(line, r.traced);
+    if let Command::Lend(n) = c {
+        return lend(r, n as usize);
+    }
+    let room = r.lent;
+    if room < outbox.len() {
+        return obey(r, line, c, &mut outbox[..room]);
+    }
+    obey(r, line, c, outbox)
+}
+
+// What a chunk brings. Each turn takes a line off it, so that there are at most as many as bytes.
+fn on_chunk(t: Taken, line: &mut [u8], chunk: &[u8], outbox: &mut [u8]) -> Taken {
+    let mut running = t.running;
+    let mut held = t.held;
+    let mut at: usize = 0;
+    let mut turns = chunk.len();
+    while 0 < turns {
+        let rest = part::tail(chunk, at);
+        match input::gather(line, held, rest) {
+            Event::More(n) => {
+                return Taken {
+                    running: running,
+                    held: n,
+                };
+            }
+            Event::Line { len, used } => {
+                let next = on_line(running, part::front(line, len), outbox);
+                running = next;
+                at = std::num::wrapping_add_usize(at, used);
+            }
+            Event::TooLong(used) => {
+                io::write_all(1, b"?\n");
+                at = std::num::wrapping_add_usize(at, used);
+            }
+        }
+        held = 0;
+        turns -= 1;
+    }
+    Taken {
+        running: running,
+        held: 0,
+    }
+}
+
+// The input has ended: what is left of it is a line, if there is anything.
+fn on_end(t: Taken, line: &[u8], outbox: &mut [u8]) {
+    match input::finish(line, t.held) {
+        Event::More(_) => {}
+        Event::Line { len, used } => {
+            on_line(t.running, part::front(line, len), outbox);
+        }
+        Event::TooLong(_) => {
+            io::write_all(1, b"?\n");
+        }
+    }
+}
+
+// Before the first line.
+fn none(traced: bool) -> Taken {
+    let first = session::none();
+    Taken {
+        running: Running {
+            session: first,
+            lent: LENT,
+            traced: traced,
+        },
+        held: 0,
+    }
+}
+
+// Reads standard input to its end and answers each line.
+pub fn run(traced: bool) {
+    let mut outbox = io::large_buffer();
+    let mut line = no_line();
+    let mut chunk = io::buffer();
+    let mut taken = none(traced);
+    let mut turns: u64 = 0xFFFF_FFFF_FFFF_FFFF;
+    while 0 < turns {
+        let got = libc::read(0, &mut chunk);
+        let n = io::count(got, &chunk);
+        if n == 0 {
+            on_end(taken, &line, &mut outbox);
+            return;
+        }
+        let next = on_chunk(taken, &mut line, part::front(&chunk, n), &mut outbox);
+        taken = next;
+        turns -= 1;
+    }
+}

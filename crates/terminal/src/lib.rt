@@ -83,21 +83,31 @@ fn command_of(line: &[u8], traced: bool) -> Command {
     command::session_command(line)
 }
 
-// A call, or nothing that is heard.
-fn obey(r: Running, line: &[u8], c: Command, outbox: &mut [u8]) -> Running {
-    let lent = r.lent;
-    let traced = r.traced;
+// Marks what is lent, so that `trace` sees what a call wrote.
+fn mark(outbox: &mut [u8], traced: bool) {
     if traced {
         record::fill(outbox);
     }
-    let reply = session::obey(r.session, line, c, outbox);
-    let next = reply.session;
-    let a = reply.answer;
-    if reply.heard {
+}
+
+// Prints what a line gives.
+fn print_reply(outbox: &[u8], traced: bool, heard: bool, a: Answer) {
+    if heard {
         print_answer(outbox, traced, a);
     } else {
         io::write_all(1, b"?\n");
     }
+}
+
+// A call, or nothing that is heard.
+fn obey(r: Running, line: &[u8], c: Command, outbox: &mut [u8]) -> Running {
+    let lent = r.lent;
+    let traced = r.traced;
+    mark(outbox, traced);
+    let reply = session::obey(r.session, line, c, outbox);
+    let next = reply.session;
+    let a = reply.answer;
+    print_reply(outbox, traced, reply.heard, a);
     Running {
         session: next,
         lent: lent,
@@ -117,50 +127,82 @@ fn lend(r: Running, n: usize) -> Running {
     next
 }
 
+// The same with as much of the outbox as is lent.
+fn obey_lent(r: Running, line: &[u8], c: Command, outbox: &mut [u8]) -> Running {
+    let room = r.lent;
+    if outbox.len() <= room {
+        return obey(r, line, c, outbox);
+    }
+    obey(r, line, c, &mut outbox[0..room])
+}
+
 // One line.
 fn on_line(r: Running, line: &[u8], outbox: &mut [u8]) -> Running {
     let c = command_of(line, r.traced);
-    if let Command::Lend(n) = c {
-        return lend(r, n as usize);
-    }
-    let room = r.lent;
-    if room < outbox.len() {
-        return obey(r, line, c, &mut outbox[..room]);
-    }
-    obey(r, line, c, outbox)
+    let Command::Lend(n) = c else {
+        return obey_lent(r, line, c, outbox);
+    };
+    lend(r, n as usize)
 }
 
-// What a chunk brings. Each turn takes a line off it, so that there are at most as many as bytes.
+// What a line's end brings, or that the line goes on: the running after it, how much of a line is held then, and how many bytes of the
+// chunk are used up, none where the line goes on.
+struct Turn {
+    running: Running,
+    held: usize,
+    used: usize,
+}
+
+fn on_event(r: Running, line: &[u8], event: Event, outbox: &mut [u8]) -> Turn {
+    match event {
+        Event::More(n) => Turn {
+            running: r,
+            held: n,
+            used: 0,
+        },
+        Event::Line { len, used } => {
+            let next = on_line(r, part::front(line, len), outbox);
+            Turn {
+                running: next,
+                held: 0,
+                used: used,
+            }
+        }
+        Event::TooLong(used) => {
+            io::write_all(1, b"?\n");
+            Turn {
+                running: r,
+                held: 0,
+                used: used,
+            }
+        }
+    }
+}
+
+// What a chunk brings. Each turn but the last takes a line off it, so that there are at most as many as bytes, and one.
 fn on_chunk(t: Taken, line: &mut [u8], chunk: &[u8], outbox: &mut [u8]) -> Taken {
     let mut running = t.running;
     let mut held = t.held;
     let mut at: usize = 0;
     let mut turns = chunk.len();
     while 0 < turns {
-        let rest = part::tail(chunk, at);
-        match input::gather(line, held, rest) {
-            Event::More(n) => {
-                return Taken {
-                    running: running,
-                    held: n,
-                };
-            }
-            Event::Line { len, used } => {
-                let next = on_line(running, part::front(line, len), outbox);
-                running = next;
-                at = std::num::wrapping_add_usize(at, used);
-            }
-            Event::TooLong(used) => {
-                io::write_all(1, b"?\n");
-                at = std::num::wrapping_add_usize(at, used);
-            }
+        let event = input::gather(line, held, part::tail(chunk, at));
+        let turn = on_event(running, line, event, outbox);
+        let next = turn.running;
+        running = next;
+        held = turn.held;
+        at = std::num::wrapping_add_usize(at, turn.used);
+        if turn.used == 0 {
+            return Taken {
+                running: running,
+                held: held,
+            };
         }
-        held = 0;
         turns -= 1;
     }
     Taken {
         running: running,
-        held: 0,
+        held: held,
     }
 }
 

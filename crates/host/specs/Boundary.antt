@@ -1,0 +1,26 @@
+-- What an exported call promises: it is the engine's call, on the engines that the host's numbers stand for before and after it.
+use Prim.Native.Nat.{ℕ}
+use mathlib.Core.Path.{_≡_}
+use mathlib.Core.List.{List}
+use Rattle.engine.specs.Calls.{Call}
+use Rattle.engine.specs.Engine.{Answers, Begins}
+use Rattle.engine.specs.declared.engine.Answered.{Answered}
+use Rattle.host.specs.declared.held.HeldEngine.{HeldEngine}
+use Rattle.host.specs.declared.held.HeldAnswer.{HeldAnswer}
+use Rattle.host.specs.declared.held.HeldAnswered.{HeldAnswered}
+use Rattle.host.specs.Held.{engineOf, answerOf}
+
+-- refused, what the host holds is number by number as it was
+pub record Crosses (h : HeldEngine) (c : Call) (outbox outbox′ : List ℕ) (h′ : HeldEngine) (a : HeldAnswer) : Type 0 where
+  pub answers : Answers (engineOf h) c outbox outbox′ (record { engine = engineOf h′; answer = answerOf a })
+  pub untouched : (a .refusal ≡ 0 → ⊥) → h′ ≡ h
+
+-- `new` fills what the host holds, whatever stood there
+abbrev pub Starts : ℕ → ℕ → HeldEngine → HeldAnswer → Type 0
+Starts seed time h a = Begins seed time (record { engine = engineOf h; answer = answerOf a })
+
+-- what the host is to hold after the engine's call
+pub record Holds (h : HeldEngine) (d : Answered) (r : HeldAnswered) : Type 0 where
+  pub answer : answerOf (r .answer) ≡ d .answer
+  pub engine : d .answer .refusal ≡ 0 → engineOf (r .engine) ≡ d .engine
+  pub untouched : (d .answer .refusal ≡ 0 → ⊥) → r .engine ≡ h

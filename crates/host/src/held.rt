@@ -1,0 +1,95 @@
+// What the host holds between calls: the engine's structs with numbers only, field by field. specs/Held.antt says which engine a value stands for.
+
+// As engine::refresh_timer::RefreshTimer.
+#[repr(C)]
+pub struct HeldTimer {
+    pub random_seed: u32,
+    pub next_salvo: u64,
+    pub phase: u8,
+}
+
+// As engine::interface::Interface; `up` is 0 for a link that is down.
+#[repr(C)]
+pub struct HeldLink {
+    pub index: u32,
+    pub up: u32,
+    pub count: usize,
+    pub addresses: [u32; 2],
+}
+
+#[repr(C)]
+pub struct HeldLinks {
+    pub count: usize,
+    pub slots: [HeldLink; 3],
+}
+
+// As engine::subscription::ActiveSearch.
+#[repr(C)]
+pub struct HeldSearch {
+    pub kind: [u8; 80],
+    pub kind_len: usize,
+}
+
+#[repr(C)]
+pub struct HeldSearches {
+    pub count: usize,
+    pub slots: [HeldSearch; 4],
+}
+
+// As engine::advertisement::ActiveAdvertisement. `needed` is 1 for a reply that waits for the group, 2 for one that waits for one searcher, and
+// any other number for none; the instant, the searcher and the address that its search reached stand beside it.
+#[repr(C)]
+pub struct HeldAdvertisement {
+    pub name: [u8; 128],
+    pub name_len: usize,
+    pub kind: [u8; 80],
+    pub kind_len: usize,
+    pub location: [u8; 120],
+    pub location_len: usize,
+    pub answer: [u8; 80],
+    pub answer_len: usize,
+    pub due: u64,
+    pub sender: u32,
+    pub receiver: u32,
+    pub port: u16,
+    pub needed: u8,
+}
+
+#[repr(C)]
+pub struct HeldAdvertisements {
+    pub count: usize,
+    pub slots: [HeldAdvertisement; 8],
+}
+
+// As engine::engine::Engine.
+#[repr(C)]
+pub struct HeldEngine {
+    pub random_seed: u32,
+    pub refresh_timer: HeldTimer,
+    pub interfaces: HeldLinks,
+    pub active_searches: HeldSearches,
+    pub advertisements: HeldAdvertisements,
+}
+
+// As engine::engine::Answer.
+#[repr(C)]
+pub struct HeldAnswer {
+    pub refusal: u32,
+    pub records: usize,
+    pub matched: usize,
+    pub joined: usize,
+    pub alone: usize,
+    pub group: usize,
+    pub dropped: usize,
+    pub waiting: usize,
+    pub poll: u64,
+    pub mask: u32,
+    pub told: u32,
+    pub leave: u32,
+}
+
+// A call's answer with what the host is to hold after it.
+pub struct HeldAnswered {
+    pub engine: HeldEngine,
+    pub answer: HeldAnswer,
+}

@@ -1,0 +1,291 @@
+// An engine in the host's numbers: held on exit of each call that is accepted.
+use crate::held::HeldAdvertisement;
+use crate::held::HeldAdvertisements;
+use crate::held::HeldAnswer;
+use crate::held::HeldAnswered;
+use crate::held::HeldEngine;
+use crate::held::HeldLink;
+use crate::held::HeldLinks;
+use crate::held::HeldSearch;
+use crate::held::HeldSearches;
+use crate::held::HeldTimer;
+use engine::advertisement::ActiveAdvertisement;
+use engine::advertisement::Advertisements;
+use engine::advertisement::Endpoint;
+use engine::advertisement::ResponseNeeded;
+use engine::engine::Answer;
+use engine::engine::Answered;
+use engine::engine::Engine;
+use engine::interface::Interface;
+use engine::interface::Interfaces;
+use engine::refresh_timer::RefreshTimer;
+use engine::subscription::ActiveSearch;
+use engine::subscription::ActiveSearches;
+ghost use mathlib.Core.Path.{_≡_};
+ghost use Rattle.host.specs.Held.{timerOf, linkOf, linksOf, searchOf, searchesOf, neededOf, advertisementOf, advertisementsOf, engineOf, answerOf};
+ghost use Rattle.host.specs.Wait.{waitOf, loneNeeded};
+ghost use Rattle.host.specs.Boundary.{Holds};
+
+fn hold_timer(t: RefreshTimer) -> HeldTimer
+    ensures { λ r. ⌜ timerOf r ≡ t ⌝ }
+{
+    HeldTimer {
+        random_seed: t.random_seed,
+        next_salvo: t.next_salvo,
+        phase: t.phase,
+    }
+}
+
+fn no_link() -> HeldLink {
+    HeldLink {
+        index: 0,
+        up: 0,
+        count: 0,
+        addresses: [0; 2],
+    }
+}
+
+fn hold_link(l: Interface) -> HeldLink
+    ensures { λ r. ⌜ linkOf r ≡ l ⌝ }
+{
+    let addresses = l.addresses;
+    let up = if l.up { 1 } else { 0 };
+    HeldLink {
+        index: l.index,
+        up: up,
+        count: l.count,
+        addresses: addresses,
+    }
+}
+
+fn hold_links(t: Interfaces) -> HeldLinks
+    ensures { λ r. ⌜ linksOf r ≡ t ⌝ }
+{
+    let blank = no_link();
+    let mut slots = [blank; 3];
+    let mut i = 0;
+    while i < 3 {
+        let from = t.slots[i];
+        let link = hold_link(from);
+        slots[i] = link;
+        i += 1;
+    }
+    HeldLinks {
+        count: t.count,
+        slots: slots,
+    }
+}
+
+fn no_search() -> HeldSearch {
+    HeldSearch {
+        kind: [0; 80],
+        kind_len: 0,
+    }
+}
+
+fn hold_search(s: ActiveSearch) -> HeldSearch
+    ensures { λ r. ⌜ searchOf r ≡ s ⌝ }
+{
+    let kind = s.kind;
+    HeldSearch {
+        kind: kind,
+        kind_len: s.kind_len,
+    }
+}
+
+fn hold_searches(t: ActiveSearches) -> HeldSearches
+    ensures { λ r. ⌜ searchesOf r ≡ t ⌝ }
+{
+    let blank = no_search();
+    let mut slots = [blank; 4];
+    let mut i = 0;
+    while i < 4 {
+        let from = t.slots[i];
+        let search = hold_search(from);
+        slots[i] = search;
+        i += 1;
+    }
+    HeldSearches {
+        count: t.count,
+        slots: slots,
+    }
+}
+
+fn no_advertisement() -> HeldAdvertisement {
+    HeldAdvertisement {
+        name: [0; 128],
+        name_len: 0,
+        kind: [0; 80],
+        kind_len: 0,
+        location: [0; 120],
+        location_len: 0,
+        answer: [0; 80],
+        answer_len: 0,
+        due: 0,
+        sender: 0,
+        receiver: 0,
+        port: 0,
+        needed: 0,
+    }
+}
+
+// A waiting reply in numbers.
+struct HeldNeeded {
+    due: u64,
+    sender: u32,
+    receiver: u32,
+    port: u16,
+    needed: u8,
+}
+
+fn lone_needed(due: u64, sender: Endpoint, receiver: u32) -> HeldNeeded
+    ensures { λ r. ⌜ r ≡ loneNeeded due sender receiver ⌝ }
+{
+    HeldNeeded {
+        due: due,
+        sender: sender.address,
+        receiver: receiver,
+        port: sender.port,
+        needed: 2,
+    }
+}
+
+fn hold_needed(n: ResponseNeeded) -> HeldNeeded
+    ensures { λ r. ⌜ waitOf r ≡ n ⌝ }
+{
+    match n {
+        ResponseNeeded::None => HeldNeeded {
+            due: 0,
+            sender: 0,
+            receiver: 0,
+            port: 0,
+            needed: 0,
+        },
+        ResponseNeeded::Multicast(due) => HeldNeeded {
+            due: due,
+            sender: 0,
+            receiver: 0,
+            port: 0,
+            needed: 1,
+        },
+        ResponseNeeded::Unicast(due, sender, receiver) => lone_needed(due, sender, receiver),
+    }
+}
+
+fn hold_advertisement(a: ActiveAdvertisement) -> HeldAdvertisement
+    ensures { λ r. ⌜ advertisementOf r ≡ a ⌝ }
+{
+    let name = a.name;
+    let kind = a.kind;
+    let location = a.location;
+    let answer = a.answer;
+    let response_needed = a.response_needed;
+    let n = hold_needed(response_needed);
+    HeldAdvertisement {
+        name: name,
+        name_len: a.name_len,
+        kind: kind,
+        kind_len: a.kind_len,
+        location: location,
+        location_len: a.location_len,
+        answer: answer,
+        answer_len: a.answer_len,
+        due: n.due,
+        sender: n.sender,
+        receiver: n.receiver,
+        port: n.port,
+        needed: n.needed,
+    }
+}
+
+fn hold_advertisements(t: Advertisements) -> HeldAdvertisements
+    ensures { λ r. ⌜ advertisementsOf r ≡ t ⌝ }
+{
+    let blank = no_advertisement();
+    let mut slots = [blank; 8];
+    let mut i = 0;
+    while i < 8 {
+        let from = t.slots[i];
+        let a = hold_advertisement(from);
+        slots[i] = a;
+        i += 1;
+    }
+    HeldAdvertisements {
+        count: t.count,
+        slots: slots,
+    }
+}
+
+// What the host is to hold for an engine.
+pub fn hold(e: Engine) -> HeldEngine
+    ensures { λ r. ⌜ engineOf r ≡ e ⌝ }
+{
+    let timer = e.refresh_timer;
+    let links = e.interfaces;
+    let searches = e.active_searches;
+    let table = e.advertisements;
+    let refresh_timer = hold_timer(timer);
+    let interfaces = hold_links(links);
+    let active_searches = hold_searches(searches);
+    let advertisements = hold_advertisements(table);
+    HeldEngine {
+        random_seed: e.random_seed,
+        refresh_timer: refresh_timer,
+        interfaces: interfaces,
+        active_searches: active_searches,
+        advertisements: advertisements,
+    }
+}
+
+fn hold_answer(a: Answer) -> HeldAnswer
+    ensures { λ r. ⌜ answerOf r ≡ a ⌝ }
+{
+    HeldAnswer {
+        refusal: a.refusal,
+        records: a.records,
+        matched: a.matched,
+        joined: a.joined,
+        alone: a.alone,
+        group: a.group,
+        dropped: a.dropped,
+        waiting: a.waiting,
+        poll: a.poll,
+        mask: a.mask,
+        told: a.told,
+        leave: a.leave,
+    }
+}
+
+// What the host is to hold after a call: refused, what it holds already.
+pub fn hold_accepted(h: HeldEngine, done: Answered) -> HeldAnswered
+    ensures { λ r. ⌜ Holds h done r ⌝ }
+{
+    let answer = done.answer;
+    let told = hold_answer(answer);
+    if answer.refusal != 0 {
+        return HeldAnswered {
+            engine: h,
+            answer: told,
+        };
+    }
+    let engine = done.engine;
+    let next = hold(engine);
+    HeldAnswered {
+        engine: next,
+        answer: told,
+    }
+}
+
+// The same after `new`, whose refusal too gives an engine.
+pub fn hold_begun(done: Answered) -> HeldAnswered
+    ensures { λ r. ⌜ (engineOf (r .engine) ≡ done .engine) × (answerOf (r .answer) ≡ done .answer) ⌝ }
+{
+    let answer = done.answer;
+    let told = hold_answer(answer);
+    let engine = done.engine;
+    let next = hold(engine);
+    HeldAnswered {
+        engine: next,
+        answer: told,
+    }
+}

@@ -1,0 +1,8 @@
+// The engine and the messages for a host that is not Rattle: what `rt staticlib host` exports. An enum cannot cross the
+// boundary, so the host holds an engine of plain numbers and lends it to each call (`held`).
+pub mod calls;
+pub mod exported;
+pub mod held;
+pub mod hold;
+pub mod messages;
+pub mod open;

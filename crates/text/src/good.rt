@@ -8,7 +8,7 @@ ghost use Rattle.text.specs.Range.{every};
 
 // Whether every byte is a visible ASCII character. The loop has no way out before the end, so that it
 // runs over many bytes at a time.
-fn is_visible(s: &[u8]) -> bool
+fn all_visible(s: &[u8]) -> bool
     ensures { λ r. ⌜ r ≡ every visible (now (s .entry)) ⌝ }
 {
     let mut all = true;
@@ -19,6 +19,26 @@ fn is_visible(s: &[u8]) -> bool
         i += 1;
     }
     all
+}
+
+// The same by blocks of 16 bytes. The last block ends where the text does and looks at some bytes of the one before again, so that no byte
+// is looked at by itself.
+fn is_visible(s: &[u8]) -> bool
+    ensures { λ r. ⌜ r ≡ every visible (now (s .entry)) ⌝ }
+{
+    if s.len() < 16 {
+        return all_visible(s);
+    }
+    let mut i = 0;
+    while 16 <= s.len() - i {
+        let e = i + 16;
+        if !all_visible(&s[i..e]) {
+            return false;
+        }
+        i = e;
+    }
+    let last = s.len() - 16;
+    all_visible(&s[last..])
 }
 
 // Whether a text passes every rule, one after the other.

@@ -1,90 +1,47 @@
--- `buffer::put` meets its contract. The invariant: the buffer is the one at entry with the first `i` bytes of the text pasted at `at`. The measure is
--- what is left of the text.
-use mathlib.Core.Path.{_≡_, refl}
-use Prim.Native.Nat.{ℕ, _+_, _-_, _≤_}
+-- `buffer::put` meets its contract: each way of writing puts a text that fits.
+use mathlib.Core.Path.{refl}
 use native.Mathlib.Omega.{arith}
-use lib.ListN.{length, length-set}
-use lib.Seq.{paste, paste-zero}
-use Rattle.text.proofs.Writing as laws
+use borrow.Author.Needs.{needs}
 use Rattle.text.proofs.buffer.put.Statement.{statement}
 use Rattle.text.proofs.buffer.put.Tie as tie
 
-abbrev Inv-loop : tie.InvT-loop
-Inv-loop buf₀ at text i₀ next₀ buf i next =
-    (next ≡ at + i) × (i ≤ length text) × (length buf ≡ length buf₀) × (buf ≡ paste buf₀ at text i)
-
-abbrev μ-loop : tie.MeasureT-loop
-μ-loop buf₀ at text i₀ next₀ buf i next = length text - i
-
-returns : tie.Need-returns Inv-loop μ-loop
+returns : tie.Need-returns
 returns c = record { fitting = λ h. absurd (omega arith); otherwise = λ h. (refl, refl) }
 
-sub-if2 : tie.Need-sub-if2 Inv-loop μ-loop
-sub-if2 c = omega arith
+sub-if2 : tie.Need-sub-if2
+sub-if2 c = search needs
 
-returns-2 : tie.Need-returns-2 Inv-loop μ-loop
+returns-2 : tie.Need-returns-2
 returns-2 c = record { fitting = λ h. absurd (omega arith); otherwise = λ h. (refl, refl) }
 
-loop-holds : tie.Need-loop-holds Inv-loop μ-loop
-loop-holds c =
-    let s = c .before .before .args in
-    (omega arith, omega arith, refl, paste-zero (s .buf .now) (s .at) (s .text .now))
+put-bytes-requires : tie.Need-put-bytes-requires
+put-bytes-requires c κs = search needs
 
-shared-slice-read-buf : tie.Need-shared-slice-read-buf Inv-loop μ-loop
-shared-slice-read-buf c = omega arith
+same-length : tie.Need-same-length
+same-length c = search needs
 
-slice-write-buf : tie.Need-slice-write-buf Inv-loop μ-loop
-slice-write-buf c = omega arith
+returns-3 : tie.Need-returns-3
+returns-3 c = record { fitting = λ _. c .before .before .put-bytes .ensures; otherwise = λ h. absurd (omega arith) }
 
-add-next : tie.Need-add-next Inv-loop μ-loop
-add-next c = omega arith
+put-blocks-requires : tie.Need-put-blocks-requires
+put-blocks-requires c κs = search needs
 
-add-i : tie.Need-add-i Inv-loop μ-loop
-add-i c = omega arith
+same-length-2 : tie.Need-same-length-2
+same-length-2 c = search needs
 
-loop-less : tie.Need-loop-less Inv-loop μ-loop
-loop-less c = omega arith
-
-loop-again : tie.Need-loop-again Inv-loop μ-loop
-loop-again c =
-    let h = c .before .before .loop in
-    let s = c .before .before .before .before .before .args in (
-      omega arith,
-      omega arith,
-      simp length-set (h .inv .2),
-      laws.turn (s .buf .now) (h .buf) (s .text .now) (s .at) (h .i) (h .next) (h .inv .0) (omega arith) (omega arith) (h .inv .3),
-    )
-
-same-length : tie.Need-same-length Inv-loop μ-loop
-same-length c = c .before .loop .inv .2
-
-returns-3 : tie.Need-returns-3 Inv-loop μ-loop
-returns-3 c =
-    let h = c .before .loop in
-    let s = c .before .before .before .before .args in
-    record {
-      fitting = λ _. record {
-        place = omega arith;
-        written = laws.copied (s .buf .now) (h .buf) (s .text .now) (s .at) (h .i) (omega arith) (h .inv .3);
-      };
-      otherwise = λ k. absurd (omega arith);
-    }
+returns-4 : tie.Need-returns-4
+returns-4 c = record { fitting = λ _. c .before .before .put-blocks .ensures; otherwise = λ h. absurd (omega arith) }
 
 pub put-spec : {M : Type 1} → statement M
 put-spec =
     tie.close
     (tie.spec
-    Inv-loop
-    μ-loop
     returns
     sub-if2
     returns-2
-    loop-holds
-    shared-slice-read-buf
-    slice-write-buf
-    add-next
-    add-i
-    loop-less
-    loop-again
+    put-bytes-requires
     same-length
-    returns-3)
+    returns-3
+    put-blocks-requires
+    same-length-2
+    returns-4)

@@ -1,6 +1,6 @@
 -- Laws of comparing: two texts agree, or are in order, as far as their bytes from place i on are.
-use mathlib.Core.Path.{_≡_, refl, sym, _∙_, ap}
-use mathlib.Core.Bool.{Bool, true, false, _&&_, and-false, and-eq-true-iff, false≢true}
+use mathlib.Core.Path.{_≡_, refl, _∙_, ap}
+use mathlib.Core.Bool.{true, false, _&&_, and-false, and-eq-true-iff, false≢true}
 use mathlib.Core.List.{List, [], _∷_}
 use Prim.Native.Nat.{ℕ, suc, _+_, _-_, _≤_, _<_}
 use native.Mathlib.Omega.{arith}
@@ -9,8 +9,7 @@ use borrow.Author.Tests.{eqb-true, le-leb, lt-leb, eq-eqb, ne-eqb, lt-ltb, le-lt
 use lib.Dec.{eqb, ltb}
 use lib.ListN.{length, drop, getD, drop-of-length-le}
 use lib.Seq.{drop-cons}
-use Rattle.text.specs.Bytes.{agree, same, upper, equal, order, startsWith}
-use Rattle.text.specs.declared.bytes.Ordering.{Ordering}
+use Rattle.text.specs.Bytes.{agree, upper, equal, order, startsWith}
 use Rattle.text.specs.declared.bytes.Ordering.the-variants.{Less, Equal, Greater}
 
 -- ASCII capitals

@@ -1,17 +1,15 @@
 -- Laws of numbers, over any largest number: the digits so far give n, and what is left decides.
 use mathlib.Core.Path.{_≡_, refl, sym, _∙_, ap}
-use mathlib.Core.Bool.{Bool, true, false, cond, _&&_, and-false}
+use mathlib.Core.Bool.{and-false}
 use mathlib.Core.List.{List, [], _∷_}
-use Prim.Native.Nat.{ℕ, zero, suc, _+_, _-_, _*_, _≤_, _<_}
+use Prim.Native.Nat.{ℕ, _+_, _-_, _*_, _≤_, _<_}
 use native.Mathlib.Omega.{arith}
 use native.Mathlib.Numerals.{add-one}
 use borrow.Author.Tests.{le-leb, lt-leb, eq-eqb, ne-eqb}
-use lib.Dec.{leb, eqb}
 use lib.ListN.{length, drop, getD, take, drop-of-length-le}
 use lib.Seq.{drop-cons, take-all}
 use Rattle.text.specs.Range.{every}
 use Rattle.text.specs.Number.{value, digits, more, unsigned, number}
-use Rattle.text.specs.declared.number.Number.{Number}
 use Rattle.text.specs.declared.number.Number.the-variants.{Value, Invalid}
 
 -- further digits make no number less, so that one above max can be refused at once

@@ -1,7 +1,7 @@
 -- Laws of white space: a run of white-space characters is passed one character a turn, from the front, and from the end over the text read backwards.
 use mathlib.Core.Path.{_≡_, refl, sym, _∙_, ap}
 use mathlib.Core.Bool.{Bool, true, false, cond, _&&_, and-false}
-use mathlib.Core.List.{List, [], _∷_, _++_, reverse, reverseAux-append}
+use mathlib.Core.List.{List, [], _∷_, reverse, reverseAux-append}
 use Prim.Native.Nat.{ℕ, zero, suc, _+_, _-_, _*_, _%_, _≤_, _<_}
 use native.Mathlib.Omega.{arith}
 use borrow.Author.Tests.{le-leb, lt-leb, ne-eqb}

@@ -1,16 +1,16 @@
 -- A text of visible ASCII characters is good: each byte is a character, none is an end of line, none is white space.
 use mathlib.Core.Path.{_≡_, refl, sym, _∙_, ap}
-use mathlib.Core.Bool.{Bool, true, false, not, _&&_, and-eq-true-iff}
+use mathlib.Core.Bool.{Bool, true, false, not, and-eq-true-iff}
 use mathlib.Core.List.{List, [], _∷_, reverse}
-use Prim.Native.Nat.{ℕ, zero, suc, _+_, _-_, _≤_, _<_}
+use Prim.Native.Nat.{ℕ, zero, suc, _-_, _≤_, _<_}
 use native.Mathlib.Omega.{arith}
 use borrow.Author.Tests.{leb-true, le-leb, ne-eqb, eq-eqb, not-true}
 use lib.Dec.{T, leb, eqb}
-use lib.ListN.{length, take, drop, getD}
-use Rattle.text.specs.Range.{within, every}
+use lib.ListN.{length, take, getD}
+use Rattle.text.specs.Range.{every}
 use Rattle.text.specs.Bytes.{lacks}
 use Rattle.text.specs.Utf8.{utf8, ascii}
-use Rattle.text.specs.White.{whiteSpace, width, opening, closing, at, leading, trailing, run}
+use Rattle.text.specs.White.{whiteSpace, width, leading, trailing, run}
 use Rattle.text.specs.Good.{goodText, visible}
 use Rattle.text.proofs.Encoding.{ascii-whole}
 use Rattle.text.proofs.Span.{all, span, is-true}

@@ -1,5 +1,4 @@
 -- `buffer::put_block`: the copy is the text.
-use mathlib.Core.Path.{_≡_, refl, sym, _∙_, ap}
 use Rattle.text.proofs.Writing as laws
 use borrow.Author.Needs.{needs}
 use Rattle.text.proofs.buffer.put_block.Statement.{statement}

@@ -1,7 +1,7 @@
 -- `buffer::put_blocks`: the buffer is the one at entry with the first `i` bytes of the text pasted at `at`. The last block starts before `i`. The measure
 -- is what is left of the text.
-use mathlib.Core.Path.{_≡_, refl, sym, _∙_, ap}
-use Prim.Native.Nat.{ℕ, _+_, _-_, _≤_}
+use mathlib.Core.Path.{_≡_, refl, _∙_, ap}
+use Prim.Native.Nat.{_+_, _-_, _≤_}
 use native.Mathlib.Omega.{arith}
 use lib.ListN.{length}
 use lib.Seq.{paste, paste-zero, length-paste}

@@ -1,7 +1,7 @@
 -- `buffer::put_bytes` meets its contract. The invariant: the buffer is the one at entry with the first `i` bytes of the text pasted at `at`. The measure is
 -- what is left of the text.
 use mathlib.Core.Path.{_≡_, refl}
-use Prim.Native.Nat.{ℕ, _+_, _-_, _≤_}
+use Prim.Native.Nat.{_+_, _-_, _≤_}
 use native.Mathlib.Omega.{arith}
 use lib.ListN.{length, length-set}
 use lib.Seq.{paste, paste-zero}

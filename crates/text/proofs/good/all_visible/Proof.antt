@@ -1,7 +1,7 @@
 -- `good::all_visible`: what was found before i, and the bytes from i on. The measure is what is left of the length.
 use mathlib.Core.Path.{_≡_, refl, sym, _∙_}
 use lib.ListN.{length, drop}
-use Prim.Native.Nat.{ℕ, _-_, _≤_}
+use Prim.Native.Nat.{_-_, _≤_}
 use mathlib.Core.Bool.{_&&_}
 use native.Mathlib.Omega.{arith}
 use Rattle.text.specs.Good.{visible}

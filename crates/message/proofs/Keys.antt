@@ -7,7 +7,7 @@ use native.Mathlib.Omega.{arith}
 use borrow.Author.Tests.{eqb-true, not-true}
 use lib.Dec.{eqb}
 use lib.ListN.{length, set}
-use Rattle.text.specs.Bytes.{bytes, agree, same, upper, equal, equalUpper}
+use Rattle.text.specs.Bytes.{bytes, agree, upper, equal, equalUpper}
 use Rattle.text.proofs.Comparing.{agree-lengths}
 use Rattle.text.specs.declared.white.Place.{Place}
 use Rattle.message.specs.Headers.{keys, keyIndex, later}

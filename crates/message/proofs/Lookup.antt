@@ -3,20 +3,20 @@
 use mathlib.Core.Path.{_≡_, refl, sym, _∙_, ap}
 use mathlib.Core.Bool.{Bool, true, false, cond, _&&_, true≢false}
 use mathlib.Core.List.{List, [], _∷_}
-use Prim.Native.Nat.{ℕ, zero, suc, _+_, _-_, _≤_, _<_}
+use Prim.Native.Nat.{ℕ, _+_, _-_, _≤_, _<_}
 use native.Mathlib.Omega.{arith}
 use borrow.Author.Tests.{lt-ltb, le-ltb, ltb-true, ltb-false}
 use lib.Dec.{ltb}
 use lib.ListN.{length, take, drop, set, length-drop, drop-of-length-le}
 use lib.Seq.{take-all, set-out, drop-drop, length-take-le}
-use Rattle.text.specs.Bytes.{bytes, indexOf, equalUpper}
+use Rattle.text.specs.Bytes.{equalUpper}
 use Rattle.text.specs.Lines.{lines, bare, firstLine}
 use Rattle.text.specs.White.{trimmed}
 use Rattle.text.specs.declared.lines.Line.{Line}
 use Rattle.text.specs.declared.white.Place.{Place}
 use Rattle.text.proofs.FirstLine.{Joined, joined}
 use Rattle.text.proofs.Trimming.{trimmed-inside}
-use Rattle.message.specs.Headers.{colon, hasColon, hasKey, shifted, valueOf, lineHeader, later, headerIn, headerFrom, headersFrom, keys, keyIndex, lineKey, noEntry, entryOf}
+use Rattle.message.specs.Headers.{colon, hasColon, shifted, valueOf, lineHeader, later, headerIn, headerFrom, headersFrom, keys, keyIndex, lineKey, noEntry, entryOf}
 use Rattle.message.specs.declared.headers.Entry.{Entry}
 use Rattle.message.specs.declared.headers.Header.{Header}
 use Rattle.message.specs.declared.headers.Header.the-variants.{Absent, At}

@@ -1,10 +1,10 @@
 -- Laws of the definitions of `parse`: each of its answers, from the tests and headers that it was made of.
 use mathlib.Core.Path.{_≡_, refl, sym, _∙_, ap}
 use mathlib.Core.Bool.{Bool, true, false, cond, not, _&&_}
-use mathlib.Core.List.{List, [], _∷_, map}
-use Prim.Native.Nat.{ℕ, _-_, _≤_, _<_}
+use mathlib.Core.List.{List, [], _∷_}
+use Prim.Native.Nat.{ℕ, _-_, _≤_}
 use native.Mathlib.Omega.{arith}
-use borrow.Author.Tests.{ne-eqb, leb-true, not-true}
+use borrow.Author.Tests.{ne-eqb, leb-true}
 use lib.Dec.{eqb, leb}
 use lib.ListN.{length, take, drop, getD, length-drop, drop-of-length-le}
 use lib.Seq.{take-all, take-nil, length-take-le}
@@ -21,7 +21,7 @@ use Rattle.message.specs.Build.{notifyLine, responseLine, searchLine}
 use Rattle.message.specs.Headers.{header, headerIn, headerFrom, headersFrom, afterFirst, keys}
 use Rattle.message.specs.Parse.{fieldAt, given, aliveOf, byebyeOf, notifyOf, responseOf, searchIn, searchOf, startLine, notifyFrom, responseFrom, searchFrom, parsed}
 use Rattle.message.specs.declared.headers.Header.{Header}
-use Rattle.message.specs.declared.headers.Header.the-variants.{Absent, At}
+use Rattle.message.specs.declared.headers.Header.the-variants.{At}
 use Rattle.message.specs.declared.Message.{Message}
 use Rattle.message.specs.declared.Message.the-variants.{Empty, Invalid}
 

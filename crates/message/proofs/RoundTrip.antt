@@ -1,8 +1,8 @@
 -- The round trip (specs/RoundTrip.antt): a message's headers are given back (Written), so its kind and its fields are.
 use mathlib.Core.Path.{_≡_, refl, sym, _∙_, ap}
-use mathlib.Core.Bool.{Bool, true, false}
-use mathlib.Core.List.{List, [], _∷_}
-use mathlib.Core.Option.{Option, none, some}
+use mathlib.Core.Bool.{true}
+use mathlib.Core.List.{List, _∷_}
+use mathlib.Core.Option.{some}
 use Prim.Native.Nat.{ℕ}
 use native.Mathlib.Omega.{arith}
 use lib.ListN.{length}
@@ -12,8 +12,7 @@ use Rattle.text.specs.Good.{goodText}
 use Rattle.text.specs.Number.{number, unsigned, more, value, max8}
 use Rattle.text.specs.Utf8.{utf8, rest, leadOf}
 use Rattle.text.specs.White.{leading, trailing, run, whiteSpace, begins}
-use Rattle.text.specs.declared.number.Number.{Number}
-use Rattle.text.specs.declared.number.Number.the-variants.{Value, Invalid as NoNumber}
+use Rattle.text.specs.declared.number.Number.the-variants.{Value}
 use Rattle.text.specs.declared.white.Place.{Place}
 use Rattle.message.specs.Build.{HeaderField, field, message, searchHeaders, responseHeaders, notifyHeaders, byebyeHeaders, searchText, responseText, notifyText, byebyeText, searchLine, responseLine, notifyLine, hostText, maxAgeText, serverText, bootHeaders}
 use Rattle.message.specs.Headers.{header}
@@ -22,8 +21,7 @@ use Rattle.message.specs.RoundTrip as trip
 use Rattle.message.specs.RoundTrip.{Content, contentOf, read, RoundTrip}
 use Rattle.message.specs.declared.headers.Header.{Header}
 use Rattle.message.specs.declared.headers.Header.the-variants.{Absent, At}
-use Rattle.message.specs.declared.Message.{Message}
-use Rattle.message.specs.declared.Message.the-variants.{Empty, Invalid, NotifyAlive, NotifyByeBye, Search, Response}
+use Rattle.message.specs.declared.Message.the-variants.{NotifyAlive, NotifyByeBye, Response}
 use Rattle.message.proofs.Reading.{given2, given3, is-alive, is-byebye, is-search, byLine, with-start}
 use Rattle.message.proofs.Written.{Sound, AllSound, no-more, one-more, seen, valueIn, message-some, message-encoded, message-start, message-header}
 

@@ -1,6 +1,6 @@
 -- What a caller of the `build_*` cites: texts that are good and within their sizes are accepted where there is room for the longest message, and
 -- a message written into the part of a buffer from `at` on is written into the buffer at `at`.
-use mathlib.Core.Path.{_≡_, refl, sym, _∙_, ap}
+use mathlib.Core.Path.{_≡_, refl, _∙_, ap}
 use mathlib.Core.Bool.{Bool, true, false, cond, not, _||_}
 use mathlib.Core.List.{List, [], _∷_, _++_}
 use Prim.Native.Nat.{ℕ, _+_, _-_, _≤_}
@@ -11,7 +11,7 @@ use lib.ListN.{length, take, drop, length-drop}
 use lib.Seq.{length-take-le}
 use Rattle.text.specs.Good.{goodText}
 use Rattle.text.specs.Put.{overwritten, Put}
-use Rattle.message.specs.Build.{Bounded, atMost, typeMax, nameMax, buildLocationMax, messageMax, anyOverSize, anyNotGood, buildRefusal, Builds, searchTexts, byebyeTexts, locatedTexts, searchText, responseText, notifyText, byebyeText}
+use Rattle.message.specs.Build.{Bounded, typeMax, nameMax, buildLocationMax, messageMax, anyOverSize, anyNotGood, buildRefusal, Builds, searchText, responseText, notifyText, byebyeText}
 use Rattle.message.specs.Refusals.{accepted, textOverSize, textNotGood, bufferShort}
 use Rattle.message.specs.declared.build.Built.{Built}
 use Rattle.message.proofs.Building.{search-length, response-length, notify-length, byebye-length}

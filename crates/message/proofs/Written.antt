@@ -3,13 +3,13 @@ use mathlib.Core.Path.{_≡_, refl, sym, _∙_, ap}
 use mathlib.Core.Bool.{Bool, true, false, cond, _&&_}
 use mathlib.Core.List.{List, [], _∷_, _++_, append-assoc}
 use mathlib.Core.Option.{Option, none, some}
-use Prim.Native.Nat.{ℕ, suc, _+_, _-_, _≤_, _<_}
+use Prim.Native.Nat.{ℕ, suc, _+_, _-_, _<_}
 use native.Mathlib.Omega.{arith}
 use borrow.Author.Tests.{lt-ltb, lt-leb}
-use lib.Dec.{eqb, ltb, leb}
+use lib.Dec.{eqb, leb}
 use lib.ListN.{length, take, drop, length-append}
-use lib.Seq.{take-append-seam, drop-at, drop-append-add, take-at}
-use Rattle.text.specs.Bytes.{bytes, indexOf, firstPlace, headed, equalUpper}
+use lib.Seq.{take-append-seam, drop-at, drop-append-add}
+use Rattle.text.specs.Bytes.{bytes, indexOf, firstPlace, equalUpper}
 use Rattle.text.specs.Good.{goodText}
 use Rattle.text.specs.Lines.{lines, bare, without, lineOf, firstLine}
 use Rattle.text.specs.Utf8.{utf8, rest, leadOf}

@@ -53,8 +53,8 @@ fn passes(s: &[u8]) -> bool
 }
 
 // Whether a text is UTF-8, has no byte 10 or 13, and no white space at an end. Most texts are visible
-// ASCII and pass all of it at once. The rules are asked for in two places and of a part, the whole: so a
-// compiler leaves them out of line, and a visible text costs no more than its look.
+// ASCII and pass all of it at once. The rules are called in two places, with the text lent anew, so that
+// the compiler keeps their code, and what it has to save for them, out of this function.
 pub fn is_good(s: &[u8]) -> bool
     ensures { λ r. ⌜ r ≡ goodText (now (s .entry)) ⌝ }
 {

@@ -1,7 +1,7 @@
 -- Laws of a build: when it is refused, what it then leaves, and how long each message is besides its texts.
 use mathlib.Core.Path.{_≡_, refl, sym, _∙_, ap}
 use mathlib.Core.Bool.{Bool, true, false, cond}
-use mathlib.Core.List.{List, [], _++_}
+use mathlib.Core.List.{List, [], _∷_, _++_}
 use Prim.Native.Nat.{ℕ, _+_, _≤_}
 use native.Mathlib.Omega.{arith}
 use native.Mathlib.Nat.{zero-add}
@@ -69,6 +69,10 @@ module _ (texts : List Bounded) {message buffer : List ℕ} {n k : ℕ} (answere
 good-empty : goodText [] ≡ true
 unfolding goodText utf8 rest leading trailing run every
 good-empty = refl
+
+pub good-missing : (s : List ℕ) → length s ≡ 0 → true ≡ goodText s
+good-missing [] e = sym good-empty
+good-missing (a ∷ s) e = absurd (omega arith)
 
 -- the refusal over three texts is that over the texts that a message has, since an empty one is within its size and good
 module _ (room : ℕ) where

@@ -6,6 +6,7 @@ ghost use mathlib.Core.List.{_++_};
 ghost use Prim.Native.Nat.{_+_, _≤_};
 ghost use lib.ListN.{length};
 ghost use Rattle.text.specs.Bytes.{bytes};
+ghost use Rattle.text.specs.Good.{goodText};
 ghost use Rattle.text.specs.Put.{Put};
 ghost use Rattle.message.specs.Build.{Builds, buildRefusal, searchTexts, byebyeTexts, locatedTexts, searchText, responseText, notifyText, byebyeText, message, headerLine, headerLines, field, crlf, hostText, maxAgeText, serverText, bootHeaders, notifyLine};
 
@@ -123,6 +124,16 @@ fn put_byebye(buf: &mut [u8], kind: &[u8], name: &[u8]) -> usize
     put(buf, d, &SERVER_AND_END)
 }
 
+// Whether a text that a message may lack is good. One that it lacks is handed in empty, and is so without a look.
+fn missing_or_good(text: &[u8]) -> bool
+    ensures { λ r. ⌜ r ≡ goodText (now (text .entry)) ⌝ }
+{
+    if text.len() == 0 {
+        return true;
+    }
+    good::is_good(text)
+}
+
 // The refusal of three texts for a message of `besides` bytes more, in a buffer of `room` bytes. A message that lacks a text hands in an empty one.
 fn refusal_of(kind: &[u8], name: &[u8], location: &[u8], besides: usize, room: usize) -> u32
     requires { ⌜ besides ≤ 163 ⌝ }
@@ -140,10 +151,10 @@ fn refusal_of(kind: &[u8], name: &[u8], location: &[u8], besides: usize, room: u
     if !good::is_good(kind) {
         return TEXT_NOT_GOOD;
     }
-    if !good::is_good(name) {
+    if !missing_or_good(name) {
         return TEXT_NOT_GOOD;
     }
-    if !good::is_good(location) {
+    if !missing_or_good(location) {
         return TEXT_NOT_GOOD;
     }
     if room < besides + (kind.len() + (name.len() + location.len())) {

@@ -3,8 +3,6 @@ use crate::bytes;
 use crate::utf8;
 use crate::white;
 ghost use mathlib.Core.Path.{_≡_};
-ghost use Prim.Native.Nat.{_≤_};
-ghost use lib.ListN.{length};
 ghost use Rattle.text.specs.Good.{goodText, visible};
 ghost use Rattle.text.specs.Range.{every};
 
@@ -23,12 +21,14 @@ fn all_visible(s: &[u8]) -> bool
     all
 }
 
-// The same of a text of 16 bytes or more, by blocks. The last block ends where the text does and looks at some bytes of the one before again,
-// so that no byte is looked at by itself.
+// The same by blocks of 16 bytes. The last block ends where the text does and looks at some bytes of the one before again, so that no byte
+// is looked at by itself.
 fn is_visible(s: &[u8]) -> bool
-    requires { ⌜ 16 ≤ length (now s) ⌝ }
     ensures { λ r. ⌜ r ≡ every visible (now (s .entry)) ⌝ }
 {
+    if s.len() < 16 {
+        return all_visible(s);
+    }
     let mut i = 0;
     while 16 <= s.len() - i {
         let e = i + 16;
@@ -53,19 +53,12 @@ fn passes(s: &[u8]) -> bool
 }
 
 // Whether a text is UTF-8, has no byte 10 or 13, and no white space at an end. Most texts are visible
-// ASCII and pass all of it at once. The rules are called in two places, with the text lent anew, so that
-// the compiler keeps their code, and what it has to save for them, out of this function.
+// ASCII and pass all of it at once.
 pub fn is_good(s: &[u8]) -> bool
     ensures { λ r. ⌜ r ≡ goodText (now (s .entry)) ⌝ }
 {
-    if s.len() < 16 {
-        if all_visible(s) {
-            return true;
-        }
-        return passes(&s[..]);
-    }
     if is_visible(s) {
         return true;
     }
-    passes(&s[..])
+    passes(s)
 }

@@ -41,8 +41,8 @@ returns-4 c =
       sym (c .before .is-good .ensures) ∙ not-true _ (c .if4 .taken),
     )
 
-is-good-requires-2 : tie.Need-is-good-requires-2
-is-good-requires-2 c κs = search needs
+missing-or-good-requires : tie.Need-missing-or-good-requires
+missing-or-good-requires c κs = search needs
 
 returns-5 : tie.Need-returns-5
 unfolding buildRefusal
@@ -52,11 +52,11 @@ returns-5 c =
       le-ltb _ _ (c .before .before .before .before .before .if2 .left),
       le-ltb _ _ (c .before .before .before .before .if3 .left),
       sym (c .before .before .before .is-good .ensures) ∙ not-false _ (c .before .before .if4 .left),
-      sym (c .before .is-good2 .ensures) ∙ not-true _ (c .if5 .taken),
+      sym (c .before .missing-or-good .ensures) ∙ not-true _ (c .if5 .taken),
     )
 
-is-good-requires-3 : tie.Need-is-good-requires-3
-is-good-requires-3 c κs = search needs
+missing-or-good-requires-2 : tie.Need-missing-or-good-requires-2
+missing-or-good-requires-2 c κs = search needs
 
 returns-6 : tie.Need-returns-6
 unfolding buildRefusal
@@ -66,8 +66,8 @@ returns-6 c =
       le-ltb _ _ (c .before .before .before .before .before .before .before .if2 .left),
       le-ltb _ _ (c .before .before .before .before .before .before .if3 .left),
       sym (c .before .before .before .before .before .is-good .ensures) ∙ not-false _ (c .before .before .before .before .if4 .left),
-      sym (c .before .before .before .is-good2 .ensures) ∙ not-false _ (c .before .before .if5 .left),
-      sym (c .before .is-good3 .ensures) ∙ not-true _ (c .if6 .taken),
+      sym (c .before .before .before .missing-or-good .ensures) ∙ not-false _ (c .before .before .if5 .left),
+      sym (c .before .missing-or-good2 .ensures) ∙ not-true _ (c .if6 .taken),
     )
 
 add-if7 : tie.Need-add-if7
@@ -87,8 +87,8 @@ returns-7 c =
       le-ltb _ _ (c .before .before .before .before .before .before .before .before .if2 .left),
       le-ltb _ _ (c .before .before .before .before .before .before .before .if3 .left),
       sym (c .before .before .before .before .before .before .is-good .ensures) ∙ not-false _ (c .before .before .before .before .before .if4 .left),
-      sym (c .before .before .before .before .is-good2 .ensures) ∙ not-false _ (c .before .before .before .if5 .left),
-      sym (c .before .before .is-good3 .ensures) ∙ not-false _ (c .before .if6 .left),
+      sym (c .before .before .before .before .missing-or-good .ensures) ∙ not-false _ (c .before .before .before .if5 .left),
+      sym (c .before .before .missing-or-good2 .ensures) ∙ not-false _ (c .before .if6 .left),
       lt-ltb _ _ (c .if7 .taken),
     )
 
@@ -100,8 +100,8 @@ returns-8 c =
       le-ltb _ _ (c .before .before .before .before .before .before .before .before .if2 .left),
       le-ltb _ _ (c .before .before .before .before .before .before .before .if3 .left),
       sym (c .before .before .before .before .before .before .is-good .ensures) ∙ not-false _ (c .before .before .before .before .before .if4 .left),
-      sym (c .before .before .before .before .is-good2 .ensures) ∙ not-false _ (c .before .before .before .if5 .left),
-      sym (c .before .before .is-good3 .ensures) ∙ not-false _ (c .before .if6 .left),
+      sym (c .before .before .before .before .missing-or-good .ensures) ∙ not-false _ (c .before .before .before .if5 .left),
+      sym (c .before .before .missing-or-good2 .ensures) ∙ not-false _ (c .before .if6 .left),
       le-ltb _ _ (c .if7 .left),
     )
 
@@ -114,9 +114,9 @@ refusal-of-spec =
     returns-3
     is-good-requires
     returns-4
-    is-good-requires-2
+    missing-or-good-requires
     returns-5
-    is-good-requires-3
+    missing-or-good-requires-2
     returns-6
     add-if7
     add-if7-2

@@ -1,0 +1,90 @@
+//! The command line.
+use std::ffi::OsString;
+use std::os::unix::ffi::OsStringExt;
+
+pub const USAGE: &str = "\
+kohlsilkd: announces services to the network by SSDP, answers searches for them, and tells what others announce
+
+  --advertise NAME TYPE LOCATION   announce a service: its unique name (USN), its type, and the URL of its description, whose
+                                   host becomes the address that an announcement is sent from (up to 8 times)
+  --subscribe TYPE                 search for a type and print what is found; ssdp:all finds everything (up to 4 times)
+  --seconds N                      end after N seconds; otherwise on SIGINT or SIGTERM
+  --seed N                         the seed of the delays, instead of a random one
+  --ttl N                          how many networks a datagram to the group may cross (4)
+  --log-records                    print each record that is sent: source, destination, port, and the message in hexadecimal
+
+At the end each name is withdrawn, and the counts of the reply ledger are printed.
+Status: 0, or 1 where the system failed or a service or search of the command line was refused, or 2 for a wrong command line.";
+
+#[derive(Debug, PartialEq, Eq)]
+pub struct Advertisement {
+    pub name: Vec<u8>,
+    pub kind: Vec<u8>,
+    pub location: Vec<u8>,
+}
+
+#[derive(Debug, PartialEq, Eq)]
+pub struct Arguments {
+    pub advertisements: Vec<Advertisement>,
+    pub subscriptions: Vec<Vec<u8>>,
+    pub seconds: Option<u64>,
+    pub seed: Option<u32>,
+    pub ttl: u8,
+    pub log_records: bool,
+}
+
+impl Arguments {
+    /// Reads the words behind the program's name; an error says which word is wrong.
+    pub fn read(words: impl IntoIterator<Item = OsString>) -> Result<Arguments, String> {
+        let mut words = words.into_iter();
+        let mut read = Arguments { advertisements: vec![], subscriptions: vec![], seconds: None, seed: None, ttl: 4, log_records: false };
+        while let Some(word) = words.next() {
+            let option = word.to_string_lossy().into_owned();
+            let mut next = || words.next().map(OsString::into_vec).ok_or(format!("{option} wants more words"));
+            match option.as_str() {
+                "--advertise" => read.advertisements.push(Advertisement { name: next()?, kind: next()?, location: next()? }),
+                "--subscribe" => read.subscriptions.push(next()?),
+                "--seconds" => read.seconds = Some(number(&option, &next()?)?),
+                "--seed" => read.seed = Some(number(&option, &next()?)?),
+                "--ttl" => read.ttl = number(&option, &next()?)?,
+                "--log-records" => read.log_records = true,
+                _ => return Err(format!("{option} is no option")),
+            }
+        }
+        if read.advertisements.is_empty() && read.subscriptions.is_empty() {
+            return Err("nothing to advertise and nothing to subscribe to".into());
+        }
+        Ok(read)
+    }
+}
+
+fn number<T: std::str::FromStr>(option: &str, word: &[u8]) -> Result<T, String> {
+    let word = String::from_utf8_lossy(word);
+    word.parse().map_err(|_| format!("{option}: {word} is no number that fits"))
+}
+
+#[cfg(test)]
+mod tests {
+    use super::*;
+
+    fn read(line: &str) -> Result<Arguments, String> {
+        Arguments::read(line.split(' ').map(OsString::from))
+    }
+
+    #[test]
+    fn all_options() {
+        let read = read("--advertise u t http://h/ --subscribe a --subscribe b --seed 7 --ttl 2 --seconds 9 --log-records").unwrap();
+        let [u, t, l] = ["u", "t", "http://h/"].map(|text| text.as_bytes().to_vec());
+        assert_eq!(read.advertisements, [Advertisement { name: u, kind: t, location: l }]);
+        assert_eq!(read.subscriptions, [b"a", b"b"]);
+        assert_eq!((read.seed, read.ttl, read.seconds, read.log_records), (Some(7), 2, Some(9), true));
+    }
+
+    #[test]
+    fn wrong_words() {
+        assert_eq!(read("--advertise u t").unwrap_err(), "--advertise wants more words");
+        assert_eq!(read("--subscribe a --ttl 256").unwrap_err(), "--ttl: 256 is no number that fits");
+        assert_eq!(read("--subscribe a -v").unwrap_err(), "-v is no option");
+        assert_eq!(read("--log-records").unwrap_err(), "nothing to advertise and nothing to subscribe to");
+    }
+}

@@ -1,0 +1,238 @@
+//! The engine among its sockets: each call's records are sent, its counts added up, its refusal reported.
+use crate::arguments::Arguments;
+use crate::links::Links;
+use crate::netlink::News;
+use crate::print::{notification, record, report, say, Counts, Text};
+use crate::socket::{Received, Socket};
+use kohlsilk::{flags, Answer, Engine, Record, Refusal, GROUP, OUTBOX_SIZE};
+use std::collections::BTreeMap;
+use std::fmt::Display;
+use std::io;
+use std::net::Ipv4Addr;
+use std::time::Instant;
+
+pub struct Host {
+    engine: Engine,
+    outbox: Vec<u8>,
+    pub sockets: Sockets,
+    links: Links,
+    counts: Counts,
+    subscriptions: Vec<Vec<u8>>,
+    start: Instant,
+    log_records: bool,
+    /// News was refused that may be accepted once a link or an address has gone.
+    refused_news: bool,
+}
+
+/// `group` hears the group and speaks for the services. `search` asks: answers come to its own port, which no other program shares.
+pub struct Sockets {
+    pub group: Socket,
+    pub search: Socket,
+}
+
+impl Sockets {
+    pub fn open(ttl: u8) -> io::Result<Sockets> {
+        Ok(Sockets { group: Socket::bound(GROUP.port(), ttl)?, search: Socket::bound(0, ttl)? })
+    }
+
+    fn send(&self, record: &Record, link: u32) -> io::Result<()> {
+        let socket = if record.message.starts_with(b"M-SEARCH ") { &self.search } else { &self.group };
+        socket.send(record, link)
+    }
+}
+
+impl Host {
+    pub fn new(seed: u32, sockets: Sockets, log_records: bool) -> Result<Host, Refusal> {
+        Ok(Host {
+            engine: Engine::new(seed, 0)?,
+            outbox: vec![0; OUTBOX_SIZE],
+            sockets,
+            links: Links::default(),
+            counts: Counts::default(),
+            subscriptions: vec![],
+            start: Instant::now(),
+            log_records,
+            refused_news: false,
+        })
+    }
+
+    /// Milliseconds since the start, which are the engine's times.
+    pub fn now(&self) -> u64 {
+        self.start.elapsed().as_millis() as u64
+    }
+
+    /// How long until the engine wants to be called.
+    pub fn until_poll(&self) -> u64 {
+        self.engine.poll().saturating_sub(self.now())
+    }
+
+    /// Takes up what the command line asks for, and says whether all of it was accepted.
+    pub fn begin(&mut self, arguments: &Arguments) -> bool {
+        let mut accepted = true;
+        for kind in &arguments.subscriptions {
+            let answer = self.engine.subscribe(kind, &mut self.outbox);
+            match self.answered(answer, None, || format!("subscribe {}", Text(kind))) {
+                Some(_) => self.subscriptions.push(kind.clone()),
+                None => accepted = false,
+            }
+        }
+        for service in &arguments.advertisements {
+            let answer = self.engine.advertise(&service.name, &service.kind, &service.location, &mut self.outbox);
+            accepted &= self.answered(answer, None, || format!("advertise {}", Text(&service.name))).is_some();
+        }
+        accepted
+    }
+
+    /// Withdraws each name, and prints the counts.
+    pub fn end(&mut self, arguments: &Arguments) {
+        for service in &arguments.advertisements {
+            let answer = self.engine.deadvertise(&service.name, &mut self.outbox);
+            self.answered(answer, None, || format!("deadvertise {}", Text(&service.name)));
+        }
+        self.counts.say(self.engine.waiting());
+    }
+
+    /// Calls the engine, if the instant that it named has come.
+    pub fn on_time(&mut self) {
+        let now = self.now();
+        if self.engine.poll() <= now {
+            let answer = self.engine.handle_timeout(now, &mut self.outbox);
+            self.answered(answer, None, || "timeout");
+        }
+    }
+
+    pub fn on_datagram(&mut self, received: &Received, datagram: &[u8]) {
+        let Received { sender, receiver, .. } = *received;
+        let answer = self.engine.on_data(self.now(), sender, receiver, datagram);
+        let Some(answer) = self.answered(answer, None, || format!("datagram from {sender}")) else { return };
+        if let (1.., Ok(message)) = (answer.told, kohlsilk::parse(datagram)) {
+            let told: Vec<String> =
+                answer.subscriptions().filter_map(|k| self.subscriptions.get(k)).map(|kind| Text(kind).to_string()).collect();
+            let line = notification(&message).unwrap_or_default();
+            say(format_args!("{line} (for {})", told.join(", ")));
+        }
+    }
+
+    /// Takes news of the network in, and says whether a survey is needed after it.
+    pub fn on_news(&mut self, news: &News) -> bool {
+        match news {
+            News::Link { index, flags } => self.on_link(*index, *flags),
+            News::LinkGone { index } => self.on_link_gone(*index),
+            News::Address { index, address } => self.on_address(*index, address),
+            News::AddressGone { index, address } => self.on_address_gone(*index, address),
+            News::ListEnd { whole } => self.on_list_end(*whole),
+        }
+    }
+
+    /// A survey begins.
+    pub fn begin_survey(&mut self) {
+        self.refused_news = false;
+        self.links.begin_survey();
+    }
+
+    /// A link that is new and was accepted needs its addresses, which may have been told of before it was.
+    fn on_link(&mut self, index: u32, link_flags: u32) -> bool {
+        self.links.see(index, &[]);
+        let multicast = link_flags & flags::MULTICAST != 0;
+        let new = multicast && !self.links.holds(index);
+        let joined = if new { self.sockets.group.join(index) } else { Ok(()) };
+        let outcome = joined.as_ref().map_or_else(error_number, |()| 0);
+        let answer = self.engine.new_link(index, link_flags, outcome, &mut self.outbox);
+        let up = link_flags & flags::UP != 0 && link_flags & flags::RUNNING != 0;
+        if answer.is_ok() && multicast {
+            self.links.note_link(index, up);
+        }
+        let accepted = self.answered(answer, Some(index), || format!("link {index}")).is_some();
+        self.refused_news |= !accepted;
+        if new && accepted {
+            say(format_args!("link {index} joined, {}", if up { "up" } else { "down" }));
+        }
+        if new && !accepted && joined.is_ok() {
+            let _ = self.sockets.group.leave(index);
+        }
+        new && accepted
+    }
+
+    fn on_link_gone(&mut self, index: u32) -> bool {
+        let held = self.links.holds(index);
+        let left = if held { self.sockets.group.leave(index) } else { Ok(()) };
+        let outcome = left.as_ref().map_or_else(error_number, |()| 0);
+        let answer = self.engine.deleted_link(index, outcome);
+        self.links.forget_link(index);
+        if let Some(answer) = self.answered(answer, None, || format!("link {index} gone")) {
+            if answer.leave != 0 {
+                report(format_args!("leaving the group on link {index}: {}", io::Error::from_raw_os_error(answer.leave as i32)));
+            }
+        }
+        held && self.refused_news
+    }
+
+    fn on_address(&mut self, index: u32, address: &[u8]) -> bool {
+        self.links.see(index, address);
+        let answer = self.engine.new_address(index, address, &mut self.outbox);
+        if answer.is_ok() {
+            self.links.note_address(index, address);
+        }
+        let accepted = self.answered(answer, Some(index), || format!("address {} on link {index}", dotted(address))).is_some();
+        self.refused_news |= !accepted;
+        false
+    }
+
+    fn on_address_gone(&mut self, index: u32, address: &[u8]) -> bool {
+        let answer = self.engine.deleted_address(index, address);
+        self.links.forget_address(index, address);
+        self.answered(answer, None, || format!("address {} gone from link {index}", dotted(address)));
+        self.links.holds(index) && self.refused_news
+    }
+
+    /// What a whole survey did not find has gone, its news having been lost.
+    fn on_list_end(&mut self, whole: bool) -> bool {
+        if !whole {
+            return true;
+        }
+        let (links, addresses) = self.links.unseen();
+        let mut survey = false;
+        for index in links {
+            survey |= self.on_link_gone(index);
+        }
+        for (index, address) in addresses {
+            survey |= self.on_address_gone(index, &address);
+        }
+        survey
+    }
+
+    /// Reports a refusal, or sends the records of an answer: to the group on `link`, if the call was about one.
+    fn answered<T: Display>(&mut self, answer: Result<Answer, Refusal>, link: Option<u32>, what: impl Fn() -> T) -> Option<Answer> {
+        let answer = match answer {
+            Ok(answer) => answer,
+            Err(refusal) => {
+                report(format_args!("{}: {refusal}", what()));
+                return None;
+            }
+        };
+        self.counts.add(&answer);
+        let mut turns = BTreeMap::new();
+        for sent in answer.records_in(&self.outbox) {
+            let to_group = sent.destination == GROUP;
+            let turn = turns.entry(sent.source).or_insert(0);
+            let link = if to_group { link.unwrap_or_else(|| self.links.link_of(sent.source, *turn)) } else { 0 };
+            *turn += usize::from(to_group);
+            if self.log_records {
+                say(format_args!("{}", record(&sent)));
+            }
+            if let Err(error) = self.sockets.send(&sent, link) {
+                report(format_args!("{}: from {} to {}: {error}", what(), sent.source, sent.destination));
+            }
+        }
+        Some(answer)
+    }
+}
+
+/// The number of an error as an outcome, which is not 0.
+fn error_number(error: &io::Error) -> u32 {
+    error.raw_os_error().map_or(1, |number| number as u32)
+}
+
+fn dotted(address: &[u8]) -> String {
+    <[u8; 4]>::try_from(address).map_or_else(|_| format!("{address:?}"), |octets| Ipv4Addr::from(octets).to_string())
+}

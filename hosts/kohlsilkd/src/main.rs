@@ -1,0 +1,118 @@
+//! `kohlsilkd`: a host for the engine on Linux. It waits for datagrams, for news of the network, and for the engine's own instants.
+mod arguments;
+mod host;
+mod links;
+mod netlink;
+mod print;
+mod socket;
+mod wait;
+
+use arguments::{Arguments, USAGE};
+use host::{Host, Sockets};
+use netlink::Netlink;
+use print::{report, say};
+use socket::Socket;
+use std::io;
+use std::io::ErrorKind::{Interrupted, WouldBlock};
+use std::os::fd::AsRawFd;
+use std::process::ExitCode;
+use wait::{wait, Signals};
+
+/// Datagrams read at a time, so that a flood of them does not keep the instants waiting.
+const AT_A_TIME: usize = 64;
+
+fn main() -> ExitCode {
+    let words: Vec<_> = std::env::args_os().skip(1).collect();
+    if words.iter().any(|word| word == "--help") {
+        say(format_args!("{USAGE}"));
+        return ExitCode::SUCCESS;
+    }
+    let arguments = match Arguments::read(words) {
+        Ok(arguments) => arguments,
+        Err(wrong) => {
+            report(format_args!("{wrong}\n\n{USAGE}"));
+            return ExitCode::from(2);
+        }
+    };
+    match serve(&arguments) {
+        Ok(true) => ExitCode::SUCCESS,
+        Ok(false) => ExitCode::FAILURE,
+        Err(error) => {
+            report(format_args!("{error}"));
+            ExitCode::FAILURE
+        }
+    }
+}
+
+/// Serves until the end, and says whether all that the command line asks for was accepted.
+fn serve(arguments: &Arguments) -> io::Result<bool> {
+    let signals = Signals::open()?;
+    let mut netlink = Netlink::open()?;
+    let sockets = Sockets::open(arguments.ttl)?;
+    let seed = arguments.seed.map_or_else(random_seed, Ok)?;
+    let mut host = Host::new(seed, sockets, arguments.log_records).map_err(io::Error::other)?;
+    let accepted = host.begin(arguments);
+    survey(&mut host, &mut netlink)?;
+    let mut buffer = vec![0; 1 << 16];
+    let end = arguments.seconds.map_or(u64::MAX, |seconds| seconds.saturating_mul(1000));
+    while host.now() < end {
+        let descriptors = [signals.as_raw_fd(), netlink.as_raw_fd(), host.sockets.group.as_raw_fd(), host.sockets.search.as_raw_fd()];
+        let [signalled, news, group, search] = wait(descriptors, host.until_poll().min(end - host.now().min(end)))?;
+        if signalled {
+            break;
+        }
+        if news {
+            take_news(&mut host, &mut netlink)?;
+        }
+        if group {
+            take_datagrams(&mut host, |host| &host.sockets.group, &mut buffer);
+        }
+        if search {
+            take_datagrams(&mut host, |host| &host.sockets.search, &mut buffer);
+        }
+        host.on_time();
+    }
+    host.end(arguments);
+    Ok(accepted)
+}
+
+fn survey(host: &mut Host, netlink: &mut Netlink) -> io::Result<()> {
+    if netlink.survey()? {
+        host.begin_survey();
+    }
+    Ok(())
+}
+
+/// Takes in the news that are there. Where some were lost, or may be accepted now, all links and addresses are asked for again.
+fn take_news(host: &mut Host, netlink: &mut Netlink) -> io::Result<()> {
+    let mut again = false;
+    match netlink.receive() {
+        Ok(news) => news.iter().for_each(|news| again |= host.on_news(news)),
+        Err(error) if error.raw_os_error() == Some(libc::ENOBUFS) => again = true,
+        Err(error) if matches!(error.kind(), WouldBlock | Interrupted) => {}
+        Err(error) => return Err(error),
+    }
+    if again || netlink.wants_survey() {
+        survey(host, netlink)?;
+    }
+    Ok(())
+}
+
+fn take_datagrams(host: &mut Host, socket: fn(&Host) -> &Socket, buffer: &mut [u8]) {
+    for _ in 0..AT_A_TIME {
+        match socket(host).receive(buffer) {
+            Ok(received) => host.on_datagram(&received, &buffer[..received.len]),
+            Err(error) if matches!(error.kind(), WouldBlock | Interrupted) => return,
+            Err(error) => {
+                report(format_args!("receiving: {error}"));
+                return;
+            }
+        }
+    }
+}
+
+fn random_seed() -> io::Result<u32> {
+    let mut bytes = [0; 4];
+    io::Read::read_exact(&mut std::fs::File::open("/dev/urandom")?, &mut bytes)?;
+    Ok(u32::from_ne_bytes(bytes))
+}

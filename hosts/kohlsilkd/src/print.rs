@@ -1,0 +1,92 @@
+//! What the program prints.
+use kohlsilk::{Answer, Message, Record};
+use std::fmt;
+use std::io::Write;
+
+/// A line to standard output. That nobody reads it any more is no reason to stop serving.
+pub fn say(line: fmt::Arguments) {
+    let _ = writeln!(std::io::stdout(), "{line}");
+}
+
+/// A line to standard error.
+pub fn report(line: fmt::Arguments) {
+    let _ = writeln!(std::io::stderr(), "kohlsilkd: {line}");
+}
+
+/// Bytes of the network or of the command line as text, with control characters written out, so that they cannot act on a terminal.
+pub struct Text<'a>(pub &'a [u8]);
+
+impl fmt::Display for Text<'_> {
+    fn fmt(&self, f: &mut fmt::Formatter<'_>) -> fmt::Result {
+        for c in String::from_utf8_lossy(self.0).chars() {
+            match c.is_control() {
+                true => write!(f, "{}", c.escape_unicode())?,
+                false => write!(f, "{c}")?,
+            }
+        }
+        Ok(())
+    }
+}
+
+/// A notification: what is there or has gone, its type, its name and where its description is.
+pub fn notification(message: &Message) -> Option<String> {
+    let text = |field: &str| Text(field.as_bytes()).to_string();
+    match *message {
+        Message::NotifyAlive { notification_type: kind, unique_service_name, location }
+        | Message::Response { search_target: kind, unique_service_name, location } => {
+            Some(format!("there {} {} {}", text(kind), text(unique_service_name), text(location)))
+        }
+        Message::NotifyByeBye { notification_type, unique_service_name } => {
+            Some(format!("gone {} {}", text(notification_type), text(unique_service_name)))
+        }
+        Message::Search { .. } => None,
+    }
+}
+
+/// A record in one line: source, destination, port, and the message in hexadecimal.
+pub fn record(record: &Record) -> String {
+    let message: String = record.message.iter().map(|byte| format!("{byte:02x}")).collect();
+    format!("record {} {} {} {message}", record.source, record.destination.ip(), record.destination.port())
+}
+
+/// The reply ledger: five sums over all answers, and the waiting of the latest.
+#[derive(Default)]
+pub struct Counts {
+    matched: usize,
+    joined: usize,
+    alone: usize,
+    group: usize,
+    dropped: usize,
+}
+
+impl Counts {
+    pub fn add(&mut self, answer: &Answer) {
+        self.matched += answer.matched;
+        self.joined += answer.joined;
+        self.alone += answer.alone;
+        self.group += answer.group;
+        self.dropped += answer.dropped;
+    }
+
+    pub fn say(&self, waiting: usize) {
+        let Counts { matched, joined, alone, group, dropped } = self;
+        say(format_args!("matched {matched}, joined {joined}, alone {alone}, group {group}, dropped {dropped}, waiting {waiting}"));
+    }
+}
+
+#[cfg(test)]
+mod tests {
+    use super::*;
+
+    #[test]
+    fn control_characters_are_written_out() {
+        assert_eq!(Text("caf\u{e9}\u{1b}[2J\u{9b}".as_bytes()).to_string(), "caf\u{e9}\\u{1b}[2J\\u{9b}");
+        assert_eq!(Text(b"a\xff").to_string(), "a\u{fffd}");
+    }
+
+    #[test]
+    fn a_record_in_hexadecimal() {
+        let line = record(&Record { destination: kohlsilk::GROUP, source: [10, 0, 0, 1].into(), message: b"N\x0a" });
+        assert_eq!(line, "record 10.0.0.1 239.255.255.250 1900 4e0a");
+    }
+}

@@ -1,0 +1,177 @@
+//! UDP sockets that say at which of the host's addresses a datagram came in, and send from the address that a record names.
+use kohlsilk::{Record, GROUP};
+use std::io;
+use std::mem::{size_of, size_of_val, zeroed};
+use std::net::{Ipv4Addr, SocketAddrV4};
+use std::os::fd::{AsRawFd, FromRawFd, OwnedFd, RawFd};
+
+pub struct Socket(OwnedFd);
+
+/// A datagram's length, where it came from, and the host's address that it reached.
+pub struct Received {
+    pub len: usize,
+    pub sender: SocketAddrV4,
+    pub receiver: Ipv4Addr,
+}
+
+/// Room for one control message with packet information, aligned as the kernel wants it.
+#[repr(C, align(8))]
+struct Control([u8; 64]);
+
+impl Socket {
+    /// A socket on a port, or on one that the kernel chooses for 0. Others on this machine may share the port, as discovery needs.
+    pub fn bound(port: u16, ttl: u8) -> io::Result<Socket> {
+        // SAFETY: no memory is passed; the descriptor is owned from here on.
+        let fd = checked(unsafe { libc::socket(libc::AF_INET, libc::SOCK_DGRAM | libc::SOCK_CLOEXEC, 0) })?;
+        // SAFETY: `fd` was opened just now and nobody else has it.
+        let socket = Socket(unsafe { OwnedFd::from_raw_fd(fd) });
+        socket.set(libc::SOL_SOCKET, libc::SO_REUSEADDR, &1i32)?;
+        socket.set(libc::IPPROTO_IP, libc::IP_PKTINFO, &1i32)?;
+        socket.set(libc::IPPROTO_IP, libc::IP_MULTICAST_TTL, &i32::from(ttl))?;
+        // Only groups that this socket joined, on the links where it did: not what other programs have joined.
+        socket.set(libc::IPPROTO_IP, libc::IP_MULTICAST_ALL, &0i32)?;
+        let address = raw_address(SocketAddrV4::new(Ipv4Addr::UNSPECIFIED, port));
+        // SAFETY: the address is a whole sockaddr_in, and its size is given.
+        checked(unsafe { libc::bind(fd, (&raw const address).cast(), size_of_val(&address) as _) })?;
+        Ok(socket)
+    }
+
+    pub fn join(&self, index: u32) -> io::Result<()> {
+        self.set(libc::IPPROTO_IP, libc::IP_ADD_MEMBERSHIP, &membership(index))
+    }
+
+    pub fn leave(&self, index: u32) -> io::Result<()> {
+        self.set(libc::IPPROTO_IP, libc::IP_DROP_MEMBERSHIP, &membership(index))
+    }
+
+    fn set<T>(&self, level: i32, option: i32, value: &T) -> io::Result<()> {
+        // SAFETY: `value` is readable for its size.
+        checked(unsafe { libc::setsockopt(self.as_raw_fd(), level, option, (value as *const T).cast(), size_of::<T>() as _) })?;
+        Ok(())
+    }
+
+    /// The next datagram, if one is there. It does not wait.
+    pub fn receive(&self, buffer: &mut [u8]) -> io::Result<Received> {
+        let mut sender = raw_address(SocketAddrV4::new(Ipv4Addr::UNSPECIFIED, 0));
+        let mut control = Control([0; 64]);
+        let mut part = libc::iovec { iov_base: buffer.as_mut_ptr().cast(), iov_len: buffer.len() };
+        let mut message = message(&mut sender, &mut part, &mut control);
+        // SAFETY: the message names three places above, each writable for the length given beside it.
+        let len = unsafe { libc::recvmsg(self.as_raw_fd(), &mut message, libc::MSG_DONTWAIT) };
+        if len < 0 {
+            return Err(io::Error::last_os_error());
+        }
+        let receiver = packet_info(&message).ok_or(io::ErrorKind::InvalidData)?;
+        let address = Ipv4Addr::from(u32::from_be(sender.sin_addr.s_addr));
+        Ok(Received { len: len as usize, sender: SocketAddrV4::new(address, u16::from_be(sender.sin_port)), receiver })
+    }
+
+    /// Sends a record from its source. `link` is the one that it goes out on, or 0 for the one that the routes give.
+    pub fn send(&self, record: &Record, link: u32) -> io::Result<()> {
+        let mut destination = raw_address(record.destination);
+        let mut control = Control([0; 64]);
+        let mut part = libc::iovec { iov_base: record.message.as_ptr().cast_mut().cast(), iov_len: record.message.len() };
+        let mut message = message(&mut destination, &mut part, &mut control);
+        let info = libc::in_pktinfo {
+            ipi_ifindex: link as i32,
+            ipi_spec_dst: libc::in_addr { s_addr: u32::from(record.source).to_be() },
+            ipi_addr: libc::in_addr { s_addr: 0 },
+        };
+        // SAFETY: the control room is aligned and larger than one header with packet information; sendmsg only reads.
+        let sent = unsafe {
+            let header = libc::CMSG_FIRSTHDR(&message);
+            (*header).cmsg_level = libc::IPPROTO_IP;
+            (*header).cmsg_type = libc::IP_PKTINFO;
+            (*header).cmsg_len = libc::CMSG_LEN(size_of_val(&info) as u32) as _;
+            libc::CMSG_DATA(header).cast::<libc::in_pktinfo>().write_unaligned(info);
+            message.msg_controllen = libc::CMSG_SPACE(size_of_val(&info) as u32) as _;
+            libc::sendmsg(self.as_raw_fd(), &message, 0)
+        };
+        if sent < 0 {
+            return Err(io::Error::last_os_error());
+        }
+        Ok(())
+    }
+}
+
+impl AsRawFd for Socket {
+    fn as_raw_fd(&self) -> RawFd {
+        self.0.as_raw_fd()
+    }
+}
+
+/// The address that a reply is expected from: for a datagram to the group, that of the link which it came by.
+fn packet_info(message: &libc::msghdr) -> Option<Ipv4Addr> {
+    // SAFETY: recvmsg has filled the control room, and the macros stay within its length.
+    unsafe {
+        let mut header = libc::CMSG_FIRSTHDR(message);
+        while !header.is_null() {
+            if (*header).cmsg_level == libc::IPPROTO_IP && (*header).cmsg_type == libc::IP_PKTINFO {
+                let info = libc::CMSG_DATA(header).cast::<libc::in_pktinfo>().read_unaligned();
+                return Some(Ipv4Addr::from(u32::from_be(info.ipi_spec_dst.s_addr)));
+            }
+            header = libc::CMSG_NXTHDR(message, header);
+        }
+    }
+    None
+}
+
+fn message(address: &mut libc::sockaddr_in, part: &mut libc::iovec, control: &mut Control) -> libc::msghdr {
+    // SAFETY: a msghdr is numbers and pointers, for which zeros are values.
+    let mut message: libc::msghdr = unsafe { zeroed() };
+    message.msg_name = (address as *mut libc::sockaddr_in).cast();
+    message.msg_namelen = size_of::<libc::sockaddr_in>() as _;
+    message.msg_iov = part;
+    message.msg_iovlen = 1;
+    message.msg_control = control.0.as_mut_ptr().cast();
+    message.msg_controllen = control.0.len() as _;
+    message
+}
+
+fn raw_address(address: SocketAddrV4) -> libc::sockaddr_in {
+    libc::sockaddr_in {
+        sin_family: libc::AF_INET as _,
+        sin_port: address.port().to_be(),
+        sin_addr: libc::in_addr { s_addr: u32::from(*address.ip()).to_be() },
+        sin_zero: [0; 8],
+    }
+}
+
+fn membership(index: u32) -> libc::ip_mreqn {
+    libc::ip_mreqn {
+        imr_multiaddr: libc::in_addr { s_addr: u32::from(*GROUP.ip()).to_be() },
+        imr_address: libc::in_addr { s_addr: 0 },
+        imr_ifindex: index as i32,
+    }
+}
+
+/// The result of a system call, or its error.
+pub fn checked(result: i32) -> io::Result<i32> {
+    if result < 0 {
+        return Err(io::Error::last_os_error());
+    }
+    Ok(result)
+}
+
+#[cfg(test)]
+mod tests {
+    use super::*;
+
+    /// A datagram within this machine: it comes from the source that the record names and at the address that it was sent to.
+    #[test]
+    fn source_and_receiver() {
+        let socket = Socket::bound(0, 4).unwrap();
+        let other = std::net::UdpSocket::bind("127.0.0.3:0").unwrap();
+        let std::net::SocketAddr::V4(destination) = other.local_addr().unwrap() else { panic!("not IPv4") };
+        let source = Ipv4Addr::new(127, 0, 0, 2);
+        socket.send(&Record { destination, source, message: b"ask" }, 0).unwrap();
+        let mut buffer = [0; 16];
+        let (len, from) = other.recv_from(&mut buffer).unwrap();
+        assert_eq!((&buffer[..len], from.ip()), (&b"ask"[..], source.into()));
+        other.send_to(b"answer", from).unwrap();
+        let received = socket.receive(&mut buffer).unwrap();
+        assert_eq!(&buffer[..received.len], b"answer");
+        assert_eq!((received.sender, received.receiver), (destination, source));
+        assert_eq!(socket.receive(&mut buffer).err().unwrap().kind(), io::ErrorKind::WouldBlock);
+    }
+}

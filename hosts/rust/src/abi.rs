@@ -1,0 +1,265 @@
+//! The functions of libhost.a as they are declared in include/kohlsilk.h. All `unsafe` of the crate is here, and none of it
+//! asks anything of a caller: the functions below take references and slices.
+//!
+//! Each declared function is proved to come back from any engine value, any numbers and any bytes, to read and write
+//! nothing but what it is lent, and to keep nothing of it.
+
+/// The engine as the host holds it: numbers alone, so that any bytes are a value of it.
+#[repr(C)]
+#[derive(Clone)]
+pub struct HeldEngine {
+    random_seed: u32,
+    timer: HeldTimer,
+    interfaces: HeldLinks,
+    active_searches: HeldSearches,
+    advertisements: HeldAdvertisements,
+}
+
+#[repr(C)]
+#[derive(Clone)]
+struct HeldTimer {
+    random_seed: u32,
+    next_salvo: u64,
+    phase: u8,
+}
+
+#[repr(C)]
+#[derive(Clone, Copy)]
+struct HeldLink {
+    index: u32,
+    up: u32,
+    count: usize,
+    addresses: [u32; 2],
+}
+
+#[repr(C)]
+#[derive(Clone)]
+struct HeldLinks {
+    count: usize,
+    slots: [HeldLink; 3],
+}
+
+#[repr(C)]
+#[derive(Clone, Copy)]
+struct HeldSearch {
+    kind: [u8; 80],
+    kind_len: usize,
+}
+
+#[repr(C)]
+#[derive(Clone)]
+struct HeldSearches {
+    count: usize,
+    slots: [HeldSearch; 4],
+}
+
+#[repr(C)]
+#[derive(Clone, Copy)]
+struct HeldAdvertisement {
+    name: [u8; 128],
+    name_len: usize,
+    kind: [u8; 80],
+    kind_len: usize,
+    location: [u8; 120],
+    location_len: usize,
+    answer: [u8; 80],
+    answer_len: usize,
+    due: u64,
+    sender: u32,
+    receiver: u32,
+    port: u16,
+    needed: u8,
+}
+
+#[repr(C)]
+#[derive(Clone)]
+struct HeldAdvertisements {
+    count: usize,
+    slots: [HeldAdvertisement; 8],
+}
+
+impl HeldEngine {
+    /// Zeros, to be lent to `new`.
+    pub const BLANK: HeldEngine = HeldEngine {
+        random_seed: 0,
+        timer: HeldTimer { random_seed: 0, next_salvo: 0, phase: 0 },
+        interfaces: HeldLinks { count: 0, slots: [HeldLink { index: 0, up: 0, count: 0, addresses: [0; 2] }; 3] },
+        active_searches: HeldSearches { count: 0, slots: [HeldSearch { kind: [0; 80], kind_len: 0 }; 4] },
+        advertisements: HeldAdvertisements { count: 0, slots: [HeldAdvertisement::BLANK; 8] },
+    };
+}
+
+impl HeldAdvertisement {
+    const BLANK: HeldAdvertisement = HeldAdvertisement {
+        name: [0; 128],
+        name_len: 0,
+        kind: [0; 80],
+        kind_len: 0,
+        location: [0; 120],
+        location_len: 0,
+        answer: [0; 80],
+        answer_len: 0,
+        due: 0,
+        sender: 0,
+        receiver: 0,
+        port: 0,
+        needed: 0,
+    };
+}
+
+#[repr(C)]
+pub struct HeldAnswer {
+    pub refusal: u32,
+    pub records: usize,
+    pub matched: usize,
+    pub joined: usize,
+    pub alone: usize,
+    pub group: usize,
+    pub dropped: usize,
+    pub waiting: usize,
+    pub poll: u64,
+    pub mask: u32,
+    pub told: u32,
+    pub leave: u32,
+}
+
+#[repr(C)]
+pub struct Parsed {
+    pub kind: u32,
+    pub mx: u32,
+    pub first: usize,
+    pub first_len: usize,
+    pub second: usize,
+    pub second_len: usize,
+    pub third: usize,
+    pub third_len: usize,
+}
+
+#[repr(C)]
+pub struct Written {
+    pub refusal: u32,
+    pub len: usize,
+}
+
+type Engine = *mut HeldEngine;
+type Bytes = *const u8;
+type Lent = *mut u8;
+
+// The order of parameters is that of the header: a slice is a pointer and a length.
+extern "C" {
+    fn kohlsilk_new(e: Engine, random_seed: u32, time: u64) -> HeldAnswer;
+    fn kohlsilk_new_link(e: Engine, index: u32, flags: u32, outcome: u32, outbox: Lent, room: usize) -> HeldAnswer;
+    fn kohlsilk_deleted_link(e: Engine, index: u32, outcome: u32) -> HeldAnswer;
+    fn kohlsilk_new_address(e: Engine, index: u32, address: Bytes, n: usize, outbox: Lent, room: usize) -> HeldAnswer;
+    fn kohlsilk_deleted_address(e: Engine, index: u32, address: Bytes, n: usize) -> HeldAnswer;
+    fn kohlsilk_subscribe(e: Engine, kind: Bytes, n: usize, outbox: Lent, room: usize) -> HeldAnswer;
+    fn kohlsilk_advertise(
+        e: Engine,
+        name: Bytes,
+        n: usize,
+        kind: Bytes,
+        k: usize,
+        location: Bytes,
+        l: usize,
+        outbox: Lent,
+        room: usize,
+    ) -> HeldAnswer;
+    fn kohlsilk_deadvertise(e: Engine, name: Bytes, n: usize, outbox: Lent, room: usize) -> HeldAnswer;
+    fn kohlsilk_refresh(e: Engine, outbox: Lent, room: usize) -> HeldAnswer;
+    fn kohlsilk_on_data(e: Engine, time: u64, sender: u32, port: u16, receiver: u32, datagram: Bytes, n: usize) -> HeldAnswer;
+    fn kohlsilk_handle_timeout(e: Engine, time: u64, outbox: Lent, room: usize) -> HeldAnswer;
+    fn kohlsilk_reset_refresh_timer(e: Engine, time: u64) -> HeldAnswer;
+    fn kohlsilk_parse(datagram: Bytes, n: usize) -> Parsed;
+    fn kohlsilk_build_search(b: Lent, room: usize, st: Bytes, k: usize) -> Written;
+    fn kohlsilk_build_response(b: Lent, room: usize, st: Bytes, k: usize, usn: Bytes, n: usize, location: Bytes, l: usize) -> Written;
+    fn kohlsilk_build_notify(b: Lent, room: usize, nt: Bytes, k: usize, usn: Bytes, n: usize, location: Bytes, l: usize) -> Written;
+    fn kohlsilk_build_byebye(b: Lent, room: usize, nt: Bytes, k: usize, usn: Bytes, n: usize) -> Written;
+}
+
+pub fn new(e: &mut HeldEngine, random_seed: u32, time: u64) -> HeldAnswer {
+    // SAFETY: `e` is lent whole and writable for the call.
+    unsafe { kohlsilk_new(e, random_seed, time) }
+}
+
+pub fn new_link(e: &mut HeldEngine, index: u32, flags: u32, outcome: u32, outbox: &mut [u8]) -> HeldAnswer {
+    // SAFETY: `e` and `outbox` are lent writable for the call and apart from each other; the length is the slice's.
+    unsafe { kohlsilk_new_link(e, index, flags, outcome, outbox.as_mut_ptr(), outbox.len()) }
+}
+
+pub fn deleted_link(e: &mut HeldEngine, index: u32, outcome: u32) -> HeldAnswer {
+    // SAFETY: `e` is lent whole and writable for the call.
+    unsafe { kohlsilk_deleted_link(e, index, outcome) }
+}
+
+pub fn new_address(e: &mut HeldEngine, index: u32, address: &[u8], outbox: &mut [u8]) -> HeldAnswer {
+    // SAFETY: `e` and `outbox` are lent writable and apart from each other and from `address`; lengths are the slices'.
+    unsafe { kohlsilk_new_address(e, index, address.as_ptr(), address.len(), outbox.as_mut_ptr(), outbox.len()) }
+}
+
+pub fn deleted_address(e: &mut HeldEngine, index: u32, address: &[u8]) -> HeldAnswer {
+    // SAFETY: `e` is lent writable and apart from `address`, whose length is the slice's.
+    unsafe { kohlsilk_deleted_address(e, index, address.as_ptr(), address.len()) }
+}
+
+pub fn subscribe(e: &mut HeldEngine, kind: &[u8], outbox: &mut [u8]) -> HeldAnswer {
+    // SAFETY: `e` and `outbox` are lent writable and apart from each other and from `kind`; lengths are the slices'.
+    unsafe { kohlsilk_subscribe(e, kind.as_ptr(), kind.len(), outbox.as_mut_ptr(), outbox.len()) }
+}
+
+pub fn advertise(e: &mut HeldEngine, name: &[u8], kind: &[u8], location: &[u8], outbox: &mut [u8]) -> HeldAnswer {
+    let (n, k, l) = (name.len(), kind.len(), location.len());
+    // SAFETY: `e` and `outbox` are lent writable and apart from each other and from the texts; lengths are the slices'.
+    unsafe { kohlsilk_advertise(e, name.as_ptr(), n, kind.as_ptr(), k, location.as_ptr(), l, outbox.as_mut_ptr(), outbox.len()) }
+}
+
+pub fn deadvertise(e: &mut HeldEngine, name: &[u8], outbox: &mut [u8]) -> HeldAnswer {
+    // SAFETY: `e` and `outbox` are lent writable and apart from each other and from `name`; lengths are the slices'.
+    unsafe { kohlsilk_deadvertise(e, name.as_ptr(), name.len(), outbox.as_mut_ptr(), outbox.len()) }
+}
+
+pub fn refresh(e: &mut HeldEngine, outbox: &mut [u8]) -> HeldAnswer {
+    // SAFETY: `e` and `outbox` are lent writable for the call and apart from each other; the length is the slice's.
+    unsafe { kohlsilk_refresh(e, outbox.as_mut_ptr(), outbox.len()) }
+}
+
+pub fn on_data(e: &mut HeldEngine, time: u64, sender: u32, port: u16, receiver: u32, datagram: &[u8]) -> HeldAnswer {
+    // SAFETY: `e` is lent writable and apart from `datagram`, whose length is the slice's.
+    unsafe { kohlsilk_on_data(e, time, sender, port, receiver, datagram.as_ptr(), datagram.len()) }
+}
+
+pub fn handle_timeout(e: &mut HeldEngine, time: u64, outbox: &mut [u8]) -> HeldAnswer {
+    // SAFETY: `e` and `outbox` are lent writable for the call and apart from each other; the length is the slice's.
+    unsafe { kohlsilk_handle_timeout(e, time, outbox.as_mut_ptr(), outbox.len()) }
+}
+
+pub fn reset_refresh_timer(e: &mut HeldEngine, time: u64) -> HeldAnswer {
+    // SAFETY: `e` is lent whole and writable for the call.
+    unsafe { kohlsilk_reset_refresh_timer(e, time) }
+}
+
+pub fn parse(datagram: &[u8]) -> Parsed {
+    // SAFETY: `datagram` is lent for the call, and its length is the slice's.
+    unsafe { kohlsilk_parse(datagram.as_ptr(), datagram.len()) }
+}
+
+pub fn build_search(b: &mut [u8], st: &[u8]) -> Written {
+    // SAFETY: `b` is lent writable and apart from `st`; lengths are the slices'.
+    unsafe { kohlsilk_build_search(b.as_mut_ptr(), b.len(), st.as_ptr(), st.len()) }
+}
+
+pub fn build_response(b: &mut [u8], st: &[u8], usn: &[u8], location: &[u8]) -> Written {
+    let (k, n, l) = (st.len(), usn.len(), location.len());
+    // SAFETY: `b` is lent writable and apart from the texts; lengths are the slices'.
+    unsafe { kohlsilk_build_response(b.as_mut_ptr(), b.len(), st.as_ptr(), k, usn.as_ptr(), n, location.as_ptr(), l) }
+}
+
+pub fn build_notify(b: &mut [u8], nt: &[u8], usn: &[u8], location: &[u8]) -> Written {
+    let (k, n, l) = (nt.len(), usn.len(), location.len());
+    // SAFETY: `b` is lent writable and apart from the texts; lengths are the slices'.
+    unsafe { kohlsilk_build_notify(b.as_mut_ptr(), b.len(), nt.as_ptr(), k, usn.as_ptr(), n, location.as_ptr(), l) }
+}
+
+pub fn build_byebye(b: &mut [u8], nt: &[u8], usn: &[u8]) -> Written {
+    // SAFETY: `b` is lent writable and apart from the texts; lengths are the slices'.
+    unsafe { kohlsilk_build_byebye(b.as_mut_ptr(), b.len(), nt.as_ptr(), nt.len(), usn.as_ptr(), usn.len()) }
+}

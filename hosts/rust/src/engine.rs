@@ -1,0 +1,125 @@
+//! The engine and its calls.
+use crate::abi::{self, HeldAnswer, HeldEngine};
+use crate::answer::Answer;
+use crate::refusal::Refusal;
+use core::fmt;
+use core::net::{Ipv4Addr, SocketAddrV4};
+
+/// The engine: up to 8 advertisements, 4 subscriptions, 3 links with 2 addresses each, and the replies that wait. It takes
+/// about 4 KB, holds no pointer and allocates nothing.
+///
+/// Times are milliseconds from any start. An outbox is any bytes that the host lends, at least [`OUTBOX_SIZE`](crate::OUTBOX_SIZE) of them:
+/// a shorter one is refused by number 2. A refused call changes nothing.
+#[derive(Clone)]
+pub struct Engine {
+    held: HeldEngine,
+    waiting: usize,
+    poll: u64,
+}
+
+impl Engine {
+    /// An engine whose first refresh is due at `time`. The seed spreads delays: take a random one.
+    pub fn new(random_seed: u32, time: u64) -> Result<Engine, Refusal> {
+        let mut engine = Engine { held: HeldEngine::BLANK, waiting: 0, poll: 0 };
+        let answer = abi::new(&mut engine.held, random_seed, time);
+        engine.noted(answer).map(|_| engine)
+    }
+
+    /// The replies that wait.
+    pub fn waiting(&self) -> usize {
+        self.waiting
+    }
+
+    /// The instant at which [`Engine::handle_timeout`] is to be called, as the latest answer has it.
+    pub fn poll(&self) -> u64 {
+        self.poll
+    }
+
+    /// A link is there, or has turned up or down (its flags: [`flags`](crate::flags)). For one that is new the host first joins the group on it, and
+    /// hands in 0 or the error's number as the outcome. A link without `MULTICAST` is passed over.
+    pub fn new_link(&mut self, index: u32, flags: u32, outcome: u32, outbox: &mut [u8]) -> Result<Answer, Refusal> {
+        let answer = abi::new_link(&mut self.held, index, flags, outcome, outbox);
+        self.noted(answer)
+    }
+
+    /// A link has gone, with the outcome of leaving the group on it, which is answered if the link was held.
+    pub fn deleted_link(&mut self, index: u32, outcome: u32) -> Result<Answer, Refusal> {
+        let answer = abi::deleted_link(&mut self.held, index, outcome);
+        self.noted(answer)
+    }
+
+    /// An address is on a link. One of 16 bytes (IPv6) is passed over.
+    pub fn new_address(&mut self, index: u32, address: &[u8], outbox: &mut [u8]) -> Result<Answer, Refusal> {
+        let answer = abi::new_address(&mut self.held, index, address, outbox);
+        self.noted(answer)
+    }
+
+    /// An address has gone from a link.
+    pub fn deleted_address(&mut self, index: u32, address: &[u8]) -> Result<Answer, Refusal> {
+        let answer = abi::deleted_address(&mut self.held, index, address);
+        self.noted(answer)
+    }
+
+    /// Searches for a type, now and at each refresh. Answers of later datagrams name it by its number, counted from 0.
+    pub fn subscribe(&mut self, kind: impl AsRef<[u8]>, outbox: &mut [u8]) -> Result<Answer, Refusal> {
+        let answer = abi::subscribe(&mut self.held, kind.as_ref(), outbox);
+        self.noted(answer)
+    }
+
+    /// Announces a service under a name (its USN), now and at each refresh; a name that is held is replaced. The host part of
+    /// the location becomes the address that a record is sent from.
+    pub fn advertise(
+        &mut self,
+        name: impl AsRef<[u8]>,
+        kind: impl AsRef<[u8]>,
+        location: impl AsRef<[u8]>,
+        outbox: &mut [u8],
+    ) -> Result<Answer, Refusal> {
+        let answer = abi::advertise(&mut self.held, name.as_ref(), kind.as_ref(), location.as_ref(), outbox);
+        self.noted(answer)
+    }
+
+    /// Says that the service of a name has gone. A name that is not held does nothing.
+    pub fn deadvertise(&mut self, name: impl AsRef<[u8]>, outbox: &mut [u8]) -> Result<Answer, Refusal> {
+        let answer = abi::deadvertise(&mut self.held, name.as_ref(), outbox);
+        self.noted(answer)
+    }
+
+    /// Announces all, and searches for all, at once.
+    pub fn refresh(&mut self, outbox: &mut [u8]) -> Result<Answer, Refusal> {
+        let answer = abi::refresh(&mut self.held, outbox);
+        self.noted(answer)
+    }
+
+    /// A datagram has come. `receiver` is the host's address that it reached: for one sent to the group, that of the link it came by.
+    pub fn on_data(&mut self, time: u64, sender: SocketAddrV4, receiver: Ipv4Addr, datagram: &[u8]) -> Result<Answer, Refusal> {
+        let (address, port) = (u32::from(*sender.ip()), sender.port());
+        let answer = abi::on_data(&mut self.held, time, address, port, receiver.into(), datagram);
+        self.noted(answer)
+    }
+
+    /// To be called once [`Engine::poll`] has come: sends the replies that are due, and the refresh if that is.
+    pub fn handle_timeout(&mut self, time: u64, outbox: &mut [u8]) -> Result<Answer, Refusal> {
+        let answer = abi::handle_timeout(&mut self.held, time, outbox);
+        self.noted(answer)
+    }
+
+    /// Begins the refreshes anew, as after the network was away.
+    pub fn reset_refresh_timer(&mut self, time: u64) -> Result<Answer, Refusal> {
+        let answer = abi::reset_refresh_timer(&mut self.held, time);
+        self.noted(answer)
+    }
+
+    /// Remembers when to wake: a refusal has the untouched engine's `waiting` and `poll`, so every answer tells.
+    fn noted(&mut self, answer: HeldAnswer) -> Result<Answer, Refusal> {
+        self.waiting = answer.waiting;
+        self.poll = answer.poll;
+        Answer::of(&answer)
+    }
+}
+
+impl fmt::Debug for Engine {
+    fn fmt(&self, f: &mut fmt::Formatter<'_>) -> fmt::Result {
+        f.debug_struct("Engine").field("waiting", &self.waiting).field("poll", &self.poll).finish_non_exhaustive()
+    }
+}

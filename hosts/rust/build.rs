@@ -17,6 +17,8 @@ fn main() {
     println!("cargo:rerun-if-changed={}", library.display());
     println!("cargo:rustc-link-search=native={}", folder.display());
     println!("cargo:rustc-link-lib=static=host");
+    // For the test that links a program in C.
+    println!("cargo:rustc-env=KOHLSILK_FOLDER={}", folder.display());
 }
 
 fn built_here() -> PathBuf {

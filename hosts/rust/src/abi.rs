@@ -263,3 +263,75 @@ pub fn build_byebye(b: &mut [u8], nt: &[u8], usn: &[u8]) -> Written {
     // SAFETY: `b` is lent writable and apart from the texts; lengths are the slices'.
     unsafe { kohlsilk_build_byebye(b.as_mut_ptr(), b.len(), nt.as_ptr(), nt.len(), usn.as_ptr(), usn.len()) }
 }
+
+#[cfg(test)]
+mod tests {
+    extern crate std;
+
+    use super::*;
+    use core::mem::{offset_of, size_of};
+    use std::format;
+    use std::io::Write;
+    use std::process::{Command, Stdio};
+    use std::string::String;
+    use std::vec;
+
+    /// The library writes each field where this module has it: numbers that differ show up in their own places.
+    #[test]
+    fn the_library_has_this_layout() {
+        let (mut e, mut outbox) = (HeldEngine::BLANK, vec![0; 62_880]);
+        assert_eq!(new(&mut e, 0x0102_0304, 7).poll, 7);
+        assert_eq!((e.random_seed, e.timer.random_seed, e.timer.next_salvo, e.timer.phase), (0x0102_0304, 0x0102_0304, 7, 0));
+        assert_eq!(handle_timeout(&mut e, 7, &mut outbox).poll, 6047);
+        assert_eq!((e.timer.next_salvo, e.timer.phase), (6047, 1));
+        new_link(&mut e, 5, 0x1041, 0, &mut outbox);
+        new_address(&mut e, 5, &[10, 0, 0, 1], &mut outbox);
+        let link = e.interfaces.slots[0];
+        assert_eq!((e.interfaces.count, link.index, link.up, link.count, link.addresses[0]), (1, 5, 1, 1, 0x0a00_0001));
+        subscribe(&mut e, b"one", &mut outbox);
+        subscribe(&mut e, b"other", &mut outbox);
+        let other = e.active_searches.slots[1];
+        assert_eq!((e.active_searches.count, &other.kind[..5], other.kind_len), (2, &b"other"[..], 5));
+        advertise(&mut e, b"name", b"t:2", b"location", &mut outbox);
+        on_data(&mut e, 100, 0x0a00_0009, 5000, 0x0a00_0001, b"M-SEARCH * HTTP/1.1\nST: t:01\nMX: 1\n");
+        let held = e.advertisements.slots[0];
+        assert_eq!((e.advertisements.count, &held.name[..4], held.name_len), (1, &b"name"[..], 4));
+        assert_eq!((&held.kind[..3], held.kind_len, &held.location[..8], held.location_len), (&b"t:2"[..], 3, &b"location"[..], 8));
+        assert_eq!((&held.answer[..4], held.answer_len), (&b"t:01"[..], 4));
+        let due = 100 + 10 + 0x0102_0304 % 1000;
+        assert_eq!((held.due, held.sender, held.receiver, held.port), (due, 0x0a00_0009, 0x0a00_0001, 5000));
+        assert_ne!(held.needed, 0);
+    }
+
+    /// The C compiler has the header's structs of the same sizes and with the same places.
+    #[test]
+    fn the_header_has_this_layout() {
+        let mut source = String::from("#include <kohlsilk.h>\n");
+        let mut claim = |what: &str, value: usize| source += &format!("_Static_assert({what} == {value}, \"{what}\");\n");
+        claim("sizeof(struct kohlsilk_engine)", size_of::<HeldEngine>());
+        claim("sizeof(struct kohlsilk_advertisement)", size_of::<HeldAdvertisement>());
+        claim("sizeof(struct kohlsilk_search)", size_of::<HeldSearch>());
+        claim("sizeof(struct kohlsilk_link)", size_of::<HeldLink>());
+        claim("sizeof(struct kohlsilk_timer)", size_of::<HeldTimer>());
+        claim("sizeof(struct kohlsilk_answer)", size_of::<HeldAnswer>());
+        claim("sizeof(struct kohlsilk_parsed)", size_of::<Parsed>());
+        claim("sizeof(struct kohlsilk_written)", size_of::<Written>());
+        claim("offsetof(struct kohlsilk_engine, interfaces)", offset_of!(HeldEngine, interfaces));
+        claim("offsetof(struct kohlsilk_engine, active_searches)", offset_of!(HeldEngine, active_searches));
+        claim("offsetof(struct kohlsilk_engine, advertisements)", offset_of!(HeldEngine, advertisements));
+        claim("offsetof(struct kohlsilk_advertisement, due)", offset_of!(HeldAdvertisement, due));
+        claim("offsetof(struct kohlsilk_advertisement, needed)", offset_of!(HeldAdvertisement, needed));
+        claim("offsetof(struct kohlsilk_answer, poll)", offset_of!(HeldAnswer, poll));
+        claim("offsetof(struct kohlsilk_answer, leave)", offset_of!(HeldAnswer, leave));
+        claim("KOHLSILK_OUTBOX", crate::OUTBOX_SIZE);
+        claim("KOHLSILK_RECORD", crate::RECORD_SIZE);
+        claim("KOHLSILK_JOIN_FAILED", crate::Refusal::JOIN_FAILED.number() as usize);
+        let include = concat!(env!("CARGO_MANIFEST_DIR"), "/../../include");
+        let mut cc = Command::new("cc");
+        cc.args(["-std=c11", "-Wall", "-Wextra", "-Wpedantic", "-Werror", "-fsyntax-only", "-xc", "-I", include, "-"])
+            .stdin(Stdio::piped());
+        let mut cc = cc.spawn().unwrap();
+        cc.stdin.take().unwrap().write_all(source.as_bytes()).unwrap();
+        assert!(cc.wait().unwrap().success());
+    }
+}

@@ -1,0 +1,190 @@
+//! The calls as a host makes them: each answers what document 01 says, and each refusal has its number.
+use kohlsilk::{flags, Answer, Engine, Message, Refusal, GROUP, OUTBOX_SIZE};
+use std::net::{Ipv4Addr, SocketAddrV4};
+
+const LINK: u32 = flags::UP | flags::RUNNING | flags::MULTICAST;
+const HERE: Ipv4Addr = Ipv4Addr::new(10, 0, 0, 1);
+const SEARCHER: SocketAddrV4 = SocketAddrV4::new(Ipv4Addr::new(10, 0, 0, 9), 5000);
+
+fn outbox() -> Vec<u8> {
+    vec![165; OUTBOX_SIZE]
+}
+
+/// An engine with one link and one address, and an outbox.
+fn serving() -> (Engine, Vec<u8>) {
+    let (mut engine, mut outbox) = (Engine::new(0, 0).unwrap(), outbox());
+    engine.new_link(1, LINK, 0, &mut outbox).unwrap();
+    engine.new_address(1, &HERE.octets(), &mut outbox).unwrap();
+    (engine, outbox)
+}
+
+fn number(answer: Result<Answer, Refusal>) -> u32 {
+    answer.map_or_else(Refusal::number, |_| 0)
+}
+
+fn search(target: &str, mx: &str) -> Vec<u8> {
+    format!("M-SEARCH * HTTP/1.1\r\nST: {target}\r\nMX: {mx}\r\n\r\n").into()
+}
+
+#[test]
+fn a_lone_reply_goes_to_its_searcher() {
+    let (mut engine, mut outbox) = serving();
+    engine.handle_timeout(0, &mut outbox).unwrap();
+    engine.advertise("u1", "t:2", "http://h:80/d", &mut outbox).unwrap();
+    let answer = engine.on_data(100, SEARCHER, HERE, &search("t:1", "1")).unwrap();
+    assert_eq!((answer.matched, answer.joined, answer.waiting, answer.poll), (1, 0, 1, 110));
+    assert_eq!((engine.waiting(), engine.poll()), (1, 110));
+    assert_eq!(engine.handle_timeout(109, &mut outbox).unwrap().records, 0);
+    let answer = engine.handle_timeout(110, &mut outbox).unwrap();
+    assert_eq!((answer.alone, answer.group, answer.waiting), (1, 0, 0));
+    let records: Vec<_> = answer.records_in(&outbox).collect();
+    assert_eq!((records.len(), records[0].destination, records[0].source), (1, SEARCHER, HERE));
+    let response = Message::Response { search_target: "t:1", unique_service_name: "u1", location: "http://10.0.0.1:80/d" };
+    assert_eq!(kohlsilk::parse(records[0].message), Ok(response));
+}
+
+#[test]
+fn a_name_that_leaves_says_so_and_drops_its_reply() {
+    let (mut engine, mut outbox) = serving();
+    engine.advertise("u1", "t", "", &mut outbox).unwrap();
+    engine.on_data(0, SEARCHER, HERE, &search("ssdp:all", "3")).unwrap();
+    let answer = engine.deadvertise("u1", &mut outbox).unwrap();
+    assert_eq!((answer.records, answer.dropped, answer.waiting), (1, 1, 0));
+    let record = answer.records_in(&outbox).next().unwrap();
+    assert_eq!((record.destination, record.source), (GROUP, HERE));
+    assert_eq!(kohlsilk::parse(record.message), Ok(Message::NotifyByeBye { notification_type: "t", unique_service_name: "u1" }));
+    assert_eq!(engine.deadvertise("u1", &mut outbox).unwrap().records, 0);
+}
+
+#[test]
+fn subscriptions_are_told_by_number() {
+    let (mut engine, mut outbox) = serving();
+    for kind in ["t:2", "u:1", "t:1", "ssdp:all"] {
+        assert_eq!(engine.subscribe(kind, &mut outbox).unwrap().records, 1);
+    }
+    let mut buffer = [0; kohlsilk::MESSAGE_MAX];
+    let notify = kohlsilk::build_notify(&mut buffer, "t:1", "u", "http://h/").unwrap();
+    let answer = engine.on_data(0, SEARCHER, HERE, notify).unwrap();
+    assert_eq!((answer.subscriptions().collect::<Vec<_>>(), answer.told), (vec![2, 3], 2));
+    // All searches collapse to one, as a subscription is to everything.
+    assert_eq!(engine.refresh(&mut outbox).unwrap().records, 1);
+}
+
+#[test]
+fn a_link_that_turns_up_is_sent_to_and_a_deleted_one_answers_its_outcome() {
+    let (mut engine, mut outbox) = serving();
+    engine.advertise("u1", "t", "", &mut outbox).unwrap();
+    assert_eq!(engine.new_link(1, flags::MULTICAST, 9, &mut outbox).unwrap().records, 0);
+    assert_eq!(engine.refresh(&mut outbox).unwrap().records, 0);
+    assert_eq!(engine.new_link(1, LINK, 0, &mut outbox).unwrap().records, 1);
+    assert_eq!(engine.deleted_address(1, &HERE.octets()).unwrap().records, 0);
+    assert_eq!(engine.refresh(&mut outbox).unwrap().records, 0);
+    assert_eq!(engine.deleted_link(1, 7).unwrap().leave, 7);
+    assert_eq!(engine.deleted_link(1, 7).unwrap().leave, 0);
+}
+
+#[test]
+fn the_refresh_begins_anew() {
+    let (mut engine, mut outbox) = serving();
+    assert_eq!(engine.handle_timeout(0, &mut outbox).unwrap().poll, 6000);
+    assert_eq!(engine.reset_refresh_timer(50).unwrap().poll, 50);
+}
+
+#[test]
+fn the_host_is_refused() {
+    let late = 1 << 63;
+    assert_eq!(Engine::new(0, late).unwrap_err(), Refusal::TIME_LATE);
+    let (mut engine, mut outbox) = serving();
+    assert_eq!(number(engine.handle_timeout(late, &mut outbox)), 1);
+    assert_eq!(number(engine.handle_timeout(late - 1, &mut outbox)), 0);
+    assert_eq!(number(engine.reset_refresh_timer(late)), 1);
+    let (mut engine, mut outbox) = serving();
+    assert_eq!(number(engine.refresh(&mut outbox[1..])), 2);
+    assert_eq!(number(engine.refresh(&mut [])), 2);
+    assert_eq!(number(engine.advertise("n".repeat(128), "t".repeat(80), "l".repeat(120), &mut outbox)), 0);
+    assert_eq!(number(engine.advertise("n".repeat(129), "t", "l", &mut outbox)), 3);
+    assert_eq!(number(engine.subscribe("t".repeat(81), &mut outbox)), 3);
+    assert_eq!(number(engine.subscribe(b"\xff", &mut outbox)), 4);
+    assert_eq!(number(engine.advertise("u", "t", "l ", &mut outbox)), 4);
+    for k in 0..8 {
+        assert_eq!(number(engine.advertise(format!("{k}"), "t", "l", &mut outbox)), if k < 7 { 0 } else { 5 });
+    }
+    assert_eq!(number(engine.advertise("6", "other", "l", &mut outbox)), 0);
+}
+
+#[test]
+fn peers_are_refused() {
+    let (mut engine, _) = serving();
+    let mut data = |datagram: &[u8]| number(engine.on_data(0, SEARCHER, HERE, datagram));
+    assert_eq!(data(b""), 7);
+    assert_eq!(data(b"junk"), 8);
+    assert_eq!(data(&search("t", "256")), 8);
+    assert_eq!(data(&search("t", "255")), 0);
+    assert_eq!(data(&search("t", "0")), 9);
+    assert_eq!(data(&search(&"t".repeat(81), "1")), 10);
+    assert_eq!(number(engine.on_data(1 << 63, SEARCHER, HERE, b"")), 1);
+}
+
+#[test]
+fn news_is_refused() {
+    let (mut engine, mut outbox) = serving();
+    assert_eq!(number(engine.new_link(0, LINK, 0, &mut outbox)), 11);
+    assert_eq!(number(engine.deleted_link(0, 0)), 11);
+    assert_eq!(number(engine.new_address(1, &[1; 5], &mut outbox)), 12);
+    assert_eq!(number(engine.deleted_address(1, &[])), 12);
+    assert_eq!(number(engine.new_address(1, &[1; 16], &mut outbox)), 0);
+    assert_eq!(number(engine.new_address(1, &[1; 4], &mut outbox)), 0);
+    assert_eq!(number(engine.new_address(1, &[2; 4], &mut outbox)), 13);
+    assert_eq!(number(engine.new_link(2, LINK, 19, &mut outbox)), 14);
+    assert_eq!(number(engine.new_link(2, LINK, 0, &mut outbox)), 0);
+    assert_eq!(number(engine.new_link(3, LINK, 0, &mut outbox)), 0);
+    assert_eq!(number(engine.new_link(4, LINK, 19, &mut outbox)), 13);
+}
+
+/// A refused call leaves the outbox, and tells waiting and poll of the engine as it was.
+#[test]
+fn a_refused_call_changes_nothing() {
+    let (mut engine, mut bytes) = serving();
+    engine.advertise("u1", "t", "l", &mut bytes).unwrap();
+    engine.handle_timeout(0, &mut bytes).unwrap();
+    engine.on_data(0, SEARCHER, HERE, &search("t", "1")).unwrap();
+    let before = (engine.waiting(), engine.poll(), bytes.clone());
+    assert_eq!(number(engine.advertise("u1", "t", "l\n", &mut bytes)), 4);
+    assert_eq!(number(engine.handle_timeout(u64::MAX, &mut bytes)), 1);
+    assert_eq!((engine.waiting(), engine.poll(), bytes), before);
+    assert_eq!(before.0, 1);
+}
+
+/// What is behind the last record keeps its bytes, and an outbox that holds no records gives none, without a panic.
+#[test]
+fn records_of_any_outbox() {
+    let (mut engine, mut bytes) = serving();
+    let answer = engine.advertise("u1", "t", "l", &mut bytes).unwrap();
+    assert_eq!(answer.records_in(&bytes).count(), 1);
+    assert!(bytes[kohlsilk::RECORD_SIZE..].iter().all(|byte| *byte == 165));
+    assert_eq!(answer.records_in(&bytes[..kohlsilk::RECORD_SIZE - 1]).count(), 0);
+    assert_eq!(answer.records_in(&[255; kohlsilk::RECORD_SIZE]).count(), 0);
+    let many = Answer { records: usize::MAX, ..answer };
+    assert_eq!(many.records_in(&[0; 3 * kohlsilk::RECORD_SIZE + 7]).count(), 3);
+}
+
+#[test]
+fn messages_are_built_and_read() {
+    let mut buffer = [0; kohlsilk::MESSAGE_MAX];
+    let response = Message::Response { search_target: "t", unique_service_name: "u", location: "caf\u{e9}" };
+    assert_eq!(kohlsilk::parse(kohlsilk::build_response(&mut buffer, "t", "u", "caf\u{e9}").unwrap()), Ok(response));
+    let search = Message::Search { search_target: "t", maximum_wait_sec: 5 };
+    assert_eq!(kohlsilk::parse(kohlsilk::build_search(&mut buffer, "t").unwrap()), Ok(search));
+    let byebye = Message::NotifyByeBye { notification_type: "t", unique_service_name: "" };
+    assert_eq!(kohlsilk::parse(kohlsilk::build_byebye(&mut buffer, "t", "").unwrap()), Ok(byebye));
+    assert_eq!(kohlsilk::build_notify(&mut buffer, "t", "u", "l".repeat(136)), Err(Refusal::TEXT_OVER_SIZE));
+    assert_eq!(kohlsilk::build_search(&mut buffer[..86], "t"), Err(Refusal::BUFFER_SHORT));
+    let longest = kohlsilk::build_notify(&mut buffer, "t".repeat(80), "u".repeat(128), "l".repeat(135));
+    assert_eq!(longest.unwrap().len(), kohlsilk::MESSAGE_MAX);
+}
+
+#[test]
+fn refusals_in_words() {
+    assert_eq!(Refusal::OUTBOX_SHORT.to_string(), "refused 2: the outbox is under 62,880 bytes");
+    assert_eq!(Refusal::LINKS_FULL.number(), 13);
+}

@@ -303,6 +303,46 @@ mod tests {
         assert_ne!(held.needed, 0);
     }
 
+    /// Any bytes are an engine: every call comes back, reports at most 120 records and writes nothing behind the outbox.
+    #[test]
+    fn any_bytes_are_an_engine() {
+        let (mut e, mut bytes, mut dice) = (HeldEngine::BLANK, vec![0; 62_880 + 64], 1u64);
+        let mut roll = || {
+            dice = dice.wrapping_mul(6_364_136_223_846_793_005).wrapping_add(1_442_695_040_888_963_407);
+            (dice >> 33) as u8
+        };
+        for round in 0..300 {
+            // SAFETY: the bytes are those of `e`, which is numbers alone.
+            let held = unsafe { core::slice::from_raw_parts_mut((&raw mut e).cast::<u8>(), size_of::<HeldEngine>()) };
+            held.iter_mut().for_each(|byte| *byte = roll());
+            // Counts and lengths that are in their bounds, too.
+            if round % 2 == 0 {
+                (e.interfaces.count, e.active_searches.count, e.advertisements.count) = (3, 4, 8);
+                e.interfaces.slots.iter_mut().for_each(|link| link.count = 2);
+                e.advertisements.slots.iter_mut().for_each(|held| (held.name_len, held.needed) = (128, roll() % 3));
+            }
+            let (outbox, behind) = bytes.split_at_mut(62_880);
+            let index = e.interfaces.slots[0].index;
+            let name = e.advertisements.slots[0].name;
+            let answers = [
+                new_link(&mut e, index, 0x1041, 0, outbox),
+                new_address(&mut e, index, &name[..4], outbox),
+                subscribe(&mut e, b"t", outbox),
+                advertise(&mut e, b"u", b"t", b"http://h/d", outbox),
+                on_data(&mut e, 0, 1, 2, 3, b"M-SEARCH * HTTP/1.1\nST: ssdp:all\nMX: 1\n"),
+                on_data(&mut e, 0, 1, 2, 3, b"NOTIFY * HTTP/1.1\nNT: t\nNTS: ssdp:byebye\nUSN: u\n"),
+                refresh(&mut e, outbox),
+                handle_timeout(&mut e, u64::MAX >> 1, outbox),
+                deadvertise(&mut e, &name, outbox),
+                deleted_address(&mut e, index, &name[..4]),
+                deleted_link(&mut e, index, 0),
+                reset_refresh_timer(&mut e, 0),
+            ];
+            assert!(answers.iter().all(|answer| answer.refusal <= 14 && answer.records <= 120));
+            assert!(behind.iter().all(|byte| *byte == 0));
+        }
+    }
+
     /// The C compiler has the header's structs of the same sizes and with the same places.
     #[test]
     fn the_header_has_this_layout() {

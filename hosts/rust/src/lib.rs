@@ -44,6 +44,9 @@
 #![no_std]
 #![deny(unsafe_code, missing_debug_implementations)]
 
+#[cfg(not(target_arch = "x86_64"))]
+compile_error!("libhost.a is built for x86-64");
+
 #[allow(unsafe_code)]
 mod abi;
 mod answer;

@@ -42,7 +42,7 @@
 //! # Ok::<(), kohlsilk::Refusal>(())
 //! ```
 #![no_std]
-#![deny(unsafe_code, missing_debug_implementations)]
+#![deny(unsafe_code, missing_docs, missing_debug_implementations)]
 
 #[cfg(not(target_arch = "x86_64"))]
 compile_error!("libhost.a is built for x86-64");

@@ -7,10 +7,15 @@ pub const MESSAGE_MAX: usize = 506;
 
 /// A message, its fields borrowed from the datagram.
 #[derive(Clone, Copy, Debug, PartialEq, Eq)]
+#[allow(missing_docs)]
 pub enum Message<'a> {
+    /// A service is there: NT, USN, LOCATION.
     NotifyAlive { notification_type: &'a str, unique_service_name: &'a str, location: &'a str },
+    /// A service has gone: NT, USN.
     NotifyByeBye { notification_type: &'a str, unique_service_name: &'a str },
+    /// Somebody searches for a type: ST, and MX, the most seconds that an answer may take.
     Search { search_target: &'a str, maximum_wait_sec: u8 },
+    /// The answer to a search: ST, USN, LOCATION.
     Response { search_target: &'a str, unique_service_name: &'a str, location: &'a str },
 }
 

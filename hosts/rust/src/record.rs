@@ -17,6 +17,7 @@ pub struct Record<'a> {
     pub destination: SocketAddrV4,
     /// The host's address from which it goes. One to the group goes out on the link that has this address.
     pub source: Ipv4Addr,
+    /// What is sent.
     pub message: &'a [u8],
 }
 

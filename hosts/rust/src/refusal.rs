@@ -13,46 +13,44 @@ const fn numbered(number: u32) -> Refusal {
     }
 }
 
-impl Refusal {
-    pub const TIME_LATE: Refusal = numbered(1);
-    pub const OUTBOX_SHORT: Refusal = numbered(2);
-    pub const TEXT_OVER_SIZE: Refusal = numbered(3);
-    pub const TEXT_NOT_GOOD: Refusal = numbered(4);
-    pub const TABLE_FULL: Refusal = numbered(5);
-    pub const BUFFER_SHORT: Refusal = numbered(6);
-    pub const DATAGRAM_EMPTY: Refusal = numbered(7);
-    pub const DATAGRAM_INVALID: Refusal = numbered(8);
-    pub const WAIT_ZERO: Refusal = numbered(9);
-    pub const TARGET_OVER_SIZE: Refusal = numbered(10);
-    pub const INDEX_ZERO: Refusal = numbered(11);
-    pub const ADDRESS_LENGTH: Refusal = numbered(12);
-    pub const LINKS_FULL: Refusal = numbered(13);
-    pub const JOIN_FAILED: Refusal = numbered(14);
+/// The table of refusals: number, name, meaning.
+macro_rules! refusals {
+    ($($number:literal $name:ident $meaning:literal;)*) => {
+        impl Refusal {
+            $(#[doc = concat!("Refusal ", $number, ": ", $meaning, ".")] pub const $name: Refusal = numbered($number);)*
 
+            /// What the number means.
+            pub fn meaning(self) -> &'static str {
+                match self.number() {
+                    $($number => $meaning,)*
+                    _ => "a reason that this crate has no words for",
+                }
+            }
+        }
+    };
+}
+
+refusals! {
+    1 TIME_LATE "the time is above 2^63 - 1 milliseconds";
+    2 OUTBOX_SHORT "the outbox is under 62,880 bytes";
+    3 TEXT_OVER_SIZE "a text is over its size (a type 80 bytes, a name 128, a location 120, or 135 in a message built by itself)";
+    4 TEXT_NOT_GOOD "a text is not UTF-8, holds a line end, or starts or ends in white space";
+    5 TABLE_FULL "eight names or four subscriptions are held already";
+    6 BUFFER_SHORT "the buffer is shorter than the message";
+    7 DATAGRAM_EMPTY "the datagram is empty";
+    8 DATAGRAM_INVALID "the datagram is no message of this protocol";
+    9 WAIT_ZERO "the search gives no time to answer (MX 0)";
+    10 TARGET_OVER_SIZE "the search target is over 80 bytes";
+    11 INDEX_ZERO "no link has the index 0";
+    12 ADDRESS_LENGTH "the address has neither 4 nor 16 bytes";
+    13 LINKS_FULL "three links, or two addresses of that link, are held already";
+    14 JOIN_FAILED "the group could not be joined on that link";
+}
+
+impl Refusal {
     /// The number, from 1 on.
     pub fn number(self) -> u32 {
         self.0.get()
-    }
-
-    /// What the number means.
-    pub fn meaning(self) -> &'static str {
-        match self.number() {
-            1 => "the time is above 2^63 - 1 milliseconds",
-            2 => "the outbox is under 62,880 bytes",
-            3 => "a text is over its size (a type 80 bytes, a name 128, a location 120, or 135 in a message built by itself)",
-            4 => "a text is not UTF-8, holds a line end, or starts or ends in white space",
-            5 => "eight names or four subscriptions are held already",
-            6 => "the buffer is shorter than the message",
-            7 => "the datagram is empty",
-            8 => "the datagram is no message of this protocol",
-            9 => "the search gives no time to answer (MX 0)",
-            10 => "the search target is over 80 bytes",
-            11 => "no link has the index 0",
-            12 => "the address has neither 4 nor 16 bytes",
-            13 => "three links, or two addresses of that link, are held already",
-            14 => "the group could not be joined on that link",
-            _ => "a reason that this crate has no words for",
-        }
     }
 
     /// `Err` for the number of a refusal, `Ok` for 0.

@@ -112,7 +112,7 @@ fn data(now: &[u8], from: &[u8], port: &[u8], to: &[u8], datagram: Vec<u8>) -> O
 }
 
 /// 'A line ends at byte 10; one byte 13 before it goes too.'
-fn bare(line: &[u8]) -> &[u8] {
+pub fn bare(line: &[u8]) -> &[u8] {
     match line.strip_suffix(b"\n") {
         Some(line) => line.strip_suffix(b"\r").unwrap_or(line),
         None => line,

@@ -10,7 +10,7 @@ pub mod text;
 
 pub use cotton::Milliseconds;
 pub use document::{MAX_TIME, OUTBOX};
-pub use front::{read, Front, Line, Program};
+pub use front::{bare, read, Front, Line, Program};
 
 use call::{Answer, Call};
 use cotton::Cotton;

@@ -1,6 +1,7 @@
 -- What an exported call promises: it is the engine's call, on the engines that the host's numbers stand for before and after it.
 use Prim.Native.Nat.{ℕ}
 use mathlib.Core.Path.{_≡_}
+use mathlib.Core.Bool.{Bool, true, false}
 use mathlib.Core.List.{List}
 use Rattle.engine.specs.Calls.{Call}
 use Rattle.engine.specs.Engine.{Answers, Begins}
@@ -19,8 +20,9 @@ pub record Crosses (h : HeldEngine) (c : Call) (outbox outbox′ : List ℕ) (h�
 abbrev pub Starts : ℕ → ℕ → HeldEngine → HeldAnswer → Type 0
 Starts seed time h a = Begins seed time (record { engine = engineOf h; answer = answerOf a })
 
--- what the host is to hold after the engine's call
-pub record Holds (h : HeldEngine) (d : Answered) (r : HeldAnswered) : Type 0 where
+-- what the host is to hold after the engine's call: where that was refused or changed nothing, what it holds already
+pub record Holds (h : HeldEngine) (changed : Bool) (d : Answered) (r : HeldAnswered) : Type 0 where
   pub answer : answerOf (r .answer) ≡ d .answer
-  pub engine : d .answer .refusal ≡ 0 → engineOf (r .engine) ≡ d .engine
+  pub engine : d .answer .refusal ≡ 0 → changed ≡ true → engineOf (r .engine) ≡ d .engine
   pub untouched : (d .answer .refusal ≡ 0 → ⊥) → r .engine ≡ h
+  pub kept : changed ≡ false → r .engine ≡ h

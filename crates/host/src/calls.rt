@@ -23,7 +23,7 @@ pub fn reset_refresh_timer(h: HeldEngine, time: u64) -> HeldAnswered
 {
     let e = open(h);
     let done = e.reset_refresh_timer(time);
-    hold_accepted(h, done)
+    hold_accepted(h, done, true)
 }
 
 pub fn refresh(h: HeldEngine, outbox: &mut [u8]) -> HeldAnswered
@@ -31,7 +31,7 @@ pub fn refresh(h: HeldEngine, outbox: &mut [u8]) -> HeldAnswered
 {
     let e = open(h);
     let done = e.refresh(outbox);
-    hold_accepted(h, done)
+    hold_accepted(h, done, false)
 }
 
 pub fn new_link(
@@ -45,7 +45,7 @@ pub fn new_link(
 {
     let e = open(h);
     let done = e.new_link(index, flags, outcome, outbox);
-    hold_accepted(h, done)
+    hold_accepted(h, done, true)
 }
 
 pub fn deleted_link(h: HeldEngine, index: u32, outcome: u32) -> HeldAnswered
@@ -53,7 +53,7 @@ pub fn deleted_link(h: HeldEngine, index: u32, outcome: u32) -> HeldAnswered
 {
     let e = open(h);
     let done = e.deleted_link(index, outcome);
-    hold_accepted(h, done)
+    hold_accepted(h, done, true)
 }
 
 pub fn new_address(h: HeldEngine, index: u32, address: &[u8], outbox: &mut [u8]) -> HeldAnswered
@@ -61,7 +61,7 @@ pub fn new_address(h: HeldEngine, index: u32, address: &[u8], outbox: &mut [u8])
 {
     let e = open(h);
     let done = e.new_address(index, address, outbox);
-    hold_accepted(h, done)
+    hold_accepted(h, done, true)
 }
 
 pub fn deleted_address(h: HeldEngine, index: u32, address: &[u8]) -> HeldAnswered
@@ -69,7 +69,7 @@ pub fn deleted_address(h: HeldEngine, index: u32, address: &[u8]) -> HeldAnswere
 {
     let e = open(h);
     let done = e.deleted_address(index, address);
-    hold_accepted(h, done)
+    hold_accepted(h, done, true)
 }
 
 pub fn subscribe(h: HeldEngine, kind: &[u8], outbox: &mut [u8]) -> HeldAnswered
@@ -77,7 +77,7 @@ pub fn subscribe(h: HeldEngine, kind: &[u8], outbox: &mut [u8]) -> HeldAnswered
 {
     let e = open(h);
     let done = e.subscribe(kind, outbox);
-    hold_accepted(h, done)
+    hold_accepted(h, done, true)
 }
 
 pub fn advertise(
@@ -91,7 +91,7 @@ pub fn advertise(
 {
     let e = open(h);
     let done = e.advertise(name, kind, location, outbox);
-    hold_accepted(h, done)
+    hold_accepted(h, done, true)
 }
 
 pub fn deadvertise(h: HeldEngine, name: &[u8], outbox: &mut [u8]) -> HeldAnswered
@@ -99,7 +99,7 @@ pub fn deadvertise(h: HeldEngine, name: &[u8], outbox: &mut [u8]) -> HeldAnswere
 {
     let e = open(h);
     let done = e.deadvertise(name, outbox);
-    hold_accepted(h, done)
+    hold_accepted(h, done, true)
 }
 
 pub fn on_data(
@@ -118,7 +118,8 @@ pub fn on_data(
     };
     let e = open(h);
     let done = e.on_data(time, from, receiver, datagram);
-    hold_accepted(h, done)
+    let answer = done.answer;
+    hold_accepted(h, done, answer.matched != 0)
 }
 
 pub fn handle_timeout(h: HeldEngine, time: u64, outbox: &mut [u8]) -> HeldAnswered
@@ -126,5 +127,5 @@ pub fn handle_timeout(h: HeldEngine, time: u64, outbox: &mut [u8]) -> HeldAnswer
 {
     let e = open(h);
     let done = e.handle_timeout(time, outbox);
-    hold_accepted(h, done)
+    hold_accepted(h, done, true)
 }

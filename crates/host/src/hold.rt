@@ -256,9 +256,9 @@ fn hold_answer(a: Answer) -> HeldAnswer
     }
 }
 
-// What the host is to hold after a call: refused, what it holds already.
-pub fn hold_accepted(h: HeldEngine, done: Answered) -> HeldAnswered
-    ensures { λ r. ⌜ Holds h done r ⌝ }
+// What the host is to hold after a call: where it was refused or changed nothing, what it holds already.
+pub fn hold_accepted(h: HeldEngine, done: Answered, changed: bool) -> HeldAnswered
+    ensures { λ r. ⌜ Holds h changed done r ⌝ }
 {
     let answer = done.answer;
     let told = hold_answer(answer);
@@ -268,10 +268,16 @@ pub fn hold_accepted(h: HeldEngine, done: Answered) -> HeldAnswered
             answer: told,
         };
     }
-    let engine = done.engine;
-    let next = hold(engine);
+    if changed {
+        let engine = done.engine;
+        let next = hold(engine);
+        return HeldAnswered {
+            engine: next,
+            answer: told,
+        };
+    }
     HeldAnswered {
-        engine: next,
+        engine: h,
         answer: told,
     }
 }

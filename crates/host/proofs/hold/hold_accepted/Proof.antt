@@ -1,4 +1,5 @@
-use mathlib.Core.Path.{refl}
+use mathlib.Core.Path.{refl, sym, _∙_}
+use Rattle.host.proofs.Crossing.{true-not-false}
 use borrow.Author.Needs.{needs}
 use Rattle.host.proofs.hold.hold_accepted.Statement.{statement}
 use Rattle.host.proofs.hold.hold_accepted.Tie as tie
@@ -13,15 +14,25 @@ hold-answer-requires c κs = search needs
 
 -- src/hold.rt:266:9
 returns : tie.Need-returns
-returns c = record { answer = c .before .before .hold-answer .ensures; engine = λ z. absurd (c .if1 .taken z); untouched = λ refused. refl }
+returns c = record { answer = c .before .before .hold-answer .ensures; engine = λ z e. absurd (c .if1 .taken z); untouched = λ refused. refl; kept = λ e. refl }
 
--- src/hold.rt:272:9
+-- src/hold.rt:273:13
 hold-requires : tie.Need-hold-requires
 hold-requires c κs = search needs
 
--- src/hold.rt:260:1
+-- src/hold.rt:274:9
 returns-2 : tie.Need-returns-2
-returns-2 c = record { answer = c .before .before .before .before .hold-answer .ensures; engine = λ z. c .hold .ensures; untouched = λ refused. absurd (refused (c .before .before .if1 .left)) }
+returns-2 c = record {
+  answer = c .before .before .before .before .before .hold-answer .ensures;
+  engine = λ z e. c .hold .ensures;
+  untouched = λ refused. absurd (refused (c .before .before .before .if1 .left));
+  kept = λ e. absurd (true-not-false (sym (c .before .before .if2 .taken) ∙ e));
+}
+
+-- src/hold.rt:260:1
+returns-3 : tie.Need-returns-3
+returns-3 c = record { answer = c .before .before .before .hold-answer .ensures; engine = λ z e. absurd (true-not-false (sym e ∙ c .if2 .left)); untouched = λ refused. refl; kept = λ e. refl }
 
 pub hold-accepted-spec : {M : Type 1} → statement M
-hold-accepted-spec = tie.close (tie.spec hold-answer-requires returns hold-requires returns-2)
+hold-accepted-spec =
+    tie.close (tie.spec hold-answer-requires returns hold-requires returns-2 returns-3)

@@ -1,5 +1,7 @@
--- Tables: a loop that turns a table of the host's numbers into one of the engine's, and back. Crossing: what a call over the host's numbers promises, from the engine's own promise.
+-- Laws that belong to no one function. Tables: a loop over the slots of a table. Quiet: calls that change nothing. Crossing: an exported call's promise from the
+-- engine's own. Inverse: opening and holding. Lent: what an exported call keeps of its other parameters.
 pub mod Tables
 pub mod Quiet
 pub mod Crossing
+pub mod Inverse
 pub mod Lent

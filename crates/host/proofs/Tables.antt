@@ -1,4 +1,4 @@
--- A loop that turns each slot of a table of the host's numbers into a slot of the engine's, or back: what the two stand for agrees at each place passed.
+-- A loop that turns each slot of one table into a slot of another.
 use mathlib.Core.Path.{_≡_, refl, sym, _∙_, ap}
 use mathlib.Core.List.{List, [], _∷_, _++_, map}
 use Prim.Native.Nat.{ℕ, suc, _+_, _≤_, _<_}
@@ -14,18 +14,12 @@ module _ {A B : Type 0} (of : A → B) where
   map-snoc [] x = refl
   map-snoc (y ∷ l) x = ap (λ (t : List B). of y ∷ t) (map-snoc l x)
 
-  -- one slot more, of either table
+  -- one slot more
   pub opened : (l : List A) (out : List B) (i : ℕ) (v : B) (d : A) → i < length l → i < length out → map of (take i l) ≡ take i out → v ≡ of (getD l i d) → map of (take (i + 1) l) ≡ take (i + 1) (set out i v)
   opened l out i v d h k p e =
       ap (λ (j : ℕ). map of (take j l)) (add-one i) ∙ ap (map of) (take-suc l i d h) ∙ map-snoc (take i l) (getD l i d)
       ∙ ap (λ (t : List B). t ++ (of (getD l i d) ∷ [])) p ∙ ap (λ (x : B). take i out ++ (x ∷ [])) (sym e)
       ∙ sym (ap (λ (j : ℕ). take j (set out i v)) (add-one i) ∙ take-suc-set out i v k)
-
-  pub held : (l : List B) (out : List A) (i : ℕ) (v : A) (d : B) → i < length l → i < length out → map of (take i out) ≡ take i l → of v ≡ getD l i d → map of (take (i + 1) (set out i v)) ≡ take (i + 1) l
-  held l out i v d h k p e =
-      ap (λ (j : ℕ). map of (take j (set out i v))) (add-one i) ∙ ap (map of) (take-suc-set out i v k) ∙ map-snoc (take i out) v
-      ∙ ap (λ (t : List B). t ++ (of v ∷ [])) p ∙ ap (λ (x : B). take i l ++ (x ∷ [])) e
-      ∙ sym (ap (λ (j : ℕ). take j l) (add-one i) ∙ take-suc l i d h)
 
   -- all slots
   pub whole : (l : List A) (m : List B) (i : ℕ) → length l ≤ i → length m ≤ i → map of (take i l) ≡ take i m → map of l ≡ m

@@ -1,4 +1,4 @@
--- What the exported functions promise: Held says which engine the host's numbers stand for, Boundary what a call over them promises.
+-- What the exported functions promise: Held says which engine the host's numbers stand for, Holding which numbers an engine is held in, Boundary what a call over them promises.
 pub mod Held
-pub mod Wait
+pub mod Holding
 pub mod Boundary

@@ -22,12 +22,13 @@ use engine::refresh_timer::RefreshTimer;
 use engine::subscription::ActiveSearch;
 use engine::subscription::ActiveSearches;
 ghost use mathlib.Core.Path.{_≡_};
-ghost use Rattle.host.specs.Held.{timerOf, linkOf, linksOf, searchOf, searchesOf, neededOf, advertisementOf, advertisementsOf, engineOf, answerOf};
-ghost use Rattle.host.specs.Wait.{waitOf, loneNeeded};
+ghost use Rattle.engine.specs.declared.advertisement.ResponseNeeded.the-variants.{Unicast};
+ghost use Rattle.host.specs.Held.{engineOf, answerOf};
+ghost use Rattle.host.specs.Holding.{heldTimer, heldLink, heldLinks, heldSearch, heldSearches, heldWait, heldAdvertisement, heldAdvertisements, heldOf};
 ghost use Rattle.host.specs.Boundary.{Holds};
 
 fn hold_timer(t: RefreshTimer) -> HeldTimer
-    ensures { λ r. ⌜ timerOf r ≡ t ⌝ }
+    ensures { λ r. ⌜ r ≡ heldTimer t ⌝ }
 {
     HeldTimer {
         random_seed: t.random_seed,
@@ -46,7 +47,7 @@ fn no_link() -> HeldLink {
 }
 
 fn hold_link(l: Interface) -> HeldLink
-    ensures { λ r. ⌜ linkOf r ≡ l ⌝ }
+    ensures { λ r. ⌜ r ≡ heldLink l ⌝ }
 {
     let addresses = l.addresses;
     let up = if l.up { 1 } else { 0 };
@@ -59,7 +60,7 @@ fn hold_link(l: Interface) -> HeldLink
 }
 
 fn hold_links(t: Interfaces) -> HeldLinks
-    ensures { λ r. ⌜ linksOf r ≡ t ⌝ }
+    ensures { λ r. ⌜ r ≡ heldLinks t ⌝ }
 {
     let blank = no_link();
     let mut slots = [blank; 3];
@@ -84,7 +85,7 @@ fn no_search() -> HeldSearch {
 }
 
 fn hold_search(s: ActiveSearch) -> HeldSearch
-    ensures { λ r. ⌜ searchOf r ≡ s ⌝ }
+    ensures { λ r. ⌜ r ≡ heldSearch s ⌝ }
 {
     let kind = s.kind;
     HeldSearch {
@@ -94,7 +95,7 @@ fn hold_search(s: ActiveSearch) -> HeldSearch
 }
 
 fn hold_searches(t: ActiveSearches) -> HeldSearches
-    ensures { λ r. ⌜ searchesOf r ≡ t ⌝ }
+    ensures { λ r. ⌜ r ≡ heldSearches t ⌝ }
 {
     let blank = no_search();
     let mut slots = [blank; 4];
@@ -139,7 +140,7 @@ struct HeldNeeded {
 }
 
 fn lone_needed(due: u64, sender: Endpoint, receiver: u32) -> HeldNeeded
-    ensures { λ r. ⌜ r ≡ loneNeeded due sender receiver ⌝ }
+    ensures { λ r. ⌜ r ≡ heldWait (Unicast due sender receiver) ⌝ }
 {
     HeldNeeded {
         due: due,
@@ -151,7 +152,7 @@ fn lone_needed(due: u64, sender: Endpoint, receiver: u32) -> HeldNeeded
 }
 
 fn hold_needed(n: ResponseNeeded) -> HeldNeeded
-    ensures { λ r. ⌜ waitOf r ≡ n ⌝ }
+    ensures { λ r. ⌜ r ≡ heldWait n ⌝ }
 {
     match n {
         ResponseNeeded::None => HeldNeeded {
@@ -173,7 +174,7 @@ fn hold_needed(n: ResponseNeeded) -> HeldNeeded
 }
 
 fn hold_advertisement(a: ActiveAdvertisement) -> HeldAdvertisement
-    ensures { λ r. ⌜ advertisementOf r ≡ a ⌝ }
+    ensures { λ r. ⌜ r ≡ heldAdvertisement a ⌝ }
 {
     let name = a.name;
     let kind = a.kind;
@@ -199,7 +200,7 @@ fn hold_advertisement(a: ActiveAdvertisement) -> HeldAdvertisement
 }
 
 fn hold_advertisements(t: Advertisements) -> HeldAdvertisements
-    ensures { λ r. ⌜ advertisementsOf r ≡ t ⌝ }
+    ensures { λ r. ⌜ r ≡ heldAdvertisements t ⌝ }
 {
     let blank = no_advertisement();
     let mut slots = [blank; 8];
@@ -218,7 +219,7 @@ fn hold_advertisements(t: Advertisements) -> HeldAdvertisements
 
 // What the host is to hold for an engine.
 pub fn hold(e: Engine) -> HeldEngine
-    ensures { λ r. ⌜ engineOf r ≡ e ⌝ }
+    ensures { λ r. ⌜ (engineOf r ≡ e) × (r ≡ heldOf e) ⌝ }
 {
     let timer = e.refresh_timer;
     let links = e.interfaces;

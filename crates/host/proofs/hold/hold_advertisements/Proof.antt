@@ -4,15 +4,15 @@ use mathlib.Core.List.{List, map}
 use Prim.Native.Nat.{ℕ, _≤_, _-_}
 use native.Mathlib.Omega.{arith}
 use lib.ListN.{length, length-map, length-set, take}
-use Rattle.engine.specs.declared.advertisement.ActiveAdvertisement.{ActiveAdvertisement}
-use Rattle.engine.specs.declared.advertisement.Advertisements.{Advertisements}
-use Rattle.host.specs.Held.{advertisementOf, advertisementsOf}
+use Rattle.host.specs.declared.held.HeldAdvertisement.{HeldAdvertisement}
+use Rattle.host.specs.declared.held.HeldAdvertisements.{HeldAdvertisements}
+use Rattle.host.specs.Holding.{heldAdvertisement, heldAdvertisements}
 use Rattle.host.proofs.Tables as tables
 use Rattle.host.proofs.hold.hold_advertisements.Statement.{statement}
 use Rattle.host.proofs.hold.hold_advertisements.Tie as tie
 
 abbrev Inv-loop : tie.InvT-loop
-Inv-loop t slots₀ i₀ slots i = (i ≤ 8) × (length slots ≡ 8) × (map advertisementOf (take i slots) ≡ take i (t .slots))
+Inv-loop t slots₀ i₀ slots i = (i ≤ 8) × (length slots ≡ 8) × (map heldAdvertisement (take i (t .slots)) ≡ take i slots)
 
 abbrev μ-loop : tie.MeasureT-loop
 μ-loop t slots₀ i₀ slots i = 8 - i
@@ -49,16 +49,16 @@ loop-again c =
     let s = c .before .before .before .before .before in
     let h = c .before .before .before .loop in
     let g : length (s .args .t1 .slots) ≡ 8 = sym (length-map (s .args .t1 .slots) _) ∙ s .good .0 .1 .1 .1 .0 .1 .0 .1 in
-    (omega arith, simp length-set (h .inv .1), tables.held advertisementOf (s .args .t1 .slots) (h .slots) (h .i) (c .hold-advertisement .result) _ (omega arith) (omega arith) (h .inv .2) (c .hold-advertisement .ensures))
+    (omega arith, simp length-set (h .inv .1), tables.opened heldAdvertisement (s .args .t1 .slots) (h .slots) (h .i) (c .hold-advertisement .result) _ (omega arith) (omega arith) (h .inv .2) (c .hold-advertisement .ensures))
 
 returns : tie.Need-returns Inv-loop μ-loop
-unfolding advertisementsOf
+unfolding heldAdvertisements
 returns c =
     let s = c .before .before .before in
     let h = c .before .loop in
     let g : length (s .args .t1 .slots) ≡ 8 = sym (length-map (s .args .t1 .slots) _) ∙ s .good .0 .1 .1 .1 .0 .1 .0 .1 in
-    let table : List ActiveAdvertisement → Advertisements = λ l. record { count = s .args .t1 .count; slots = l } in
-    ap table (tables.whole advertisementOf (h .slots) (s .args .t1 .slots) (h .i) (omega arith) (omega arith) (h .inv .2))
+    let table : List HeldAdvertisement → HeldAdvertisements = λ l. record { count = s .args .t1 .count; slots = l } in
+    ap table (sym (tables.whole heldAdvertisement (s .args .t1 .slots) (h .slots) (h .i) (omega arith) (omega arith) (h .inv .2)))
 
 pub hold-advertisements-spec : {M : Type 1} → statement M
 hold-advertisements-spec =

@@ -4,15 +4,15 @@ use mathlib.Core.List.{List, map}
 use Prim.Native.Nat.{ℕ, _≤_, _-_}
 use native.Mathlib.Omega.{arith}
 use lib.ListN.{length, length-map, length-set, take}
-use Rattle.engine.specs.declared.interface.Interface.{Interface}
-use Rattle.engine.specs.declared.interface.Interfaces.{Interfaces}
-use Rattle.host.specs.Held.{linkOf, linksOf}
+use Rattle.host.specs.declared.held.HeldLink.{HeldLink}
+use Rattle.host.specs.declared.held.HeldLinks.{HeldLinks}
+use Rattle.host.specs.Holding.{heldLink, heldLinks}
 use Rattle.host.proofs.Tables as tables
 use Rattle.host.proofs.hold.hold_links.Statement.{statement}
 use Rattle.host.proofs.hold.hold_links.Tie as tie
 
 abbrev Inv-loop : tie.InvT-loop
-Inv-loop t slots₀ i₀ slots i = (i ≤ 3) × (length slots ≡ 3) × (map linkOf (take i slots) ≡ take i (t .slots))
+Inv-loop t slots₀ i₀ slots i = (i ≤ 3) × (length slots ≡ 3) × (map heldLink (take i (t .slots)) ≡ take i slots)
 
 abbrev μ-loop : tie.MeasureT-loop
 μ-loop t slots₀ i₀ slots i = 3 - i
@@ -49,16 +49,16 @@ loop-again c =
     let s = c .before .before .before .before .before in
     let h = c .before .before .before .loop in
     let g : length (s .args .t1 .slots) ≡ 3 = sym (length-map (s .args .t1 .slots) _) ∙ s .good .0 .1 .1 .1 .0 .1 .0 .1 in
-    (omega arith, simp length-set (h .inv .1), tables.held linkOf (s .args .t1 .slots) (h .slots) (h .i) (c .hold-link .result) _ (omega arith) (omega arith) (h .inv .2) (c .hold-link .ensures))
+    (omega arith, simp length-set (h .inv .1), tables.opened heldLink (s .args .t1 .slots) (h .slots) (h .i) (c .hold-link .result) _ (omega arith) (omega arith) (h .inv .2) (c .hold-link .ensures))
 
 returns : tie.Need-returns Inv-loop μ-loop
-unfolding linksOf
+unfolding heldLinks
 returns c =
     let s = c .before .before .before in
     let h = c .before .loop in
     let g : length (s .args .t1 .slots) ≡ 3 = sym (length-map (s .args .t1 .slots) _) ∙ s .good .0 .1 .1 .1 .0 .1 .0 .1 in
-    let table : List Interface → Interfaces = λ l. record { count = s .args .t1 .count; slots = l } in
-    ap table (tables.whole linkOf (h .slots) (s .args .t1 .slots) (h .i) (omega arith) (omega arith) (h .inv .2))
+    let table : List HeldLink → HeldLinks = λ l. record { count = s .args .t1 .count; slots = l } in
+    ap table (sym (tables.whole heldLink (s .args .t1 .slots) (h .slots) (h .i) (omega arith) (omega arith) (h .inv .2)))
 
 pub hold-links-spec : {M : Type 1} → statement M
 hold-links-spec =

@@ -4,15 +4,15 @@ use mathlib.Core.List.{List, map}
 use Prim.Native.Nat.{ℕ, _≤_, _-_}
 use native.Mathlib.Omega.{arith}
 use lib.ListN.{length, length-map, length-set, take}
-use Rattle.engine.specs.declared.subscription.ActiveSearch.{ActiveSearch}
-use Rattle.engine.specs.declared.subscription.ActiveSearches.{ActiveSearches}
-use Rattle.host.specs.Held.{searchOf, searchesOf}
+use Rattle.host.specs.declared.held.HeldSearch.{HeldSearch}
+use Rattle.host.specs.declared.held.HeldSearches.{HeldSearches}
+use Rattle.host.specs.Holding.{heldSearch, heldSearches}
 use Rattle.host.proofs.Tables as tables
 use Rattle.host.proofs.hold.hold_searches.Statement.{statement}
 use Rattle.host.proofs.hold.hold_searches.Tie as tie
 
 abbrev Inv-loop : tie.InvT-loop
-Inv-loop t slots₀ i₀ slots i = (i ≤ 4) × (length slots ≡ 4) × (map searchOf (take i slots) ≡ take i (t .slots))
+Inv-loop t slots₀ i₀ slots i = (i ≤ 4) × (length slots ≡ 4) × (map heldSearch (take i (t .slots)) ≡ take i slots)
 
 abbrev μ-loop : tie.MeasureT-loop
 μ-loop t slots₀ i₀ slots i = 4 - i
@@ -49,16 +49,16 @@ loop-again c =
     let s = c .before .before .before .before .before in
     let h = c .before .before .before .loop in
     let g : length (s .args .t1 .slots) ≡ 4 = sym (length-map (s .args .t1 .slots) _) ∙ s .good .0 .1 .1 .1 .0 .1 .0 .1 in
-    (omega arith, simp length-set (h .inv .1), tables.held searchOf (s .args .t1 .slots) (h .slots) (h .i) (c .hold-search .result) _ (omega arith) (omega arith) (h .inv .2) (c .hold-search .ensures))
+    (omega arith, simp length-set (h .inv .1), tables.opened heldSearch (s .args .t1 .slots) (h .slots) (h .i) (c .hold-search .result) _ (omega arith) (omega arith) (h .inv .2) (c .hold-search .ensures))
 
 returns : tie.Need-returns Inv-loop μ-loop
-unfolding searchesOf
+unfolding heldSearches
 returns c =
     let s = c .before .before .before in
     let h = c .before .loop in
     let g : length (s .args .t1 .slots) ≡ 4 = sym (length-map (s .args .t1 .slots) _) ∙ s .good .0 .1 .1 .1 .0 .1 .0 .1 in
-    let table : List ActiveSearch → ActiveSearches = λ l. record { count = s .args .t1 .count; slots = l } in
-    ap table (tables.whole searchOf (h .slots) (s .args .t1 .slots) (h .i) (omega arith) (omega arith) (h .inv .2))
+    let table : List HeldSearch → HeldSearches = λ l. record { count = s .args .t1 .count; slots = l } in
+    ap table (sym (tables.whole heldSearch (s .args .t1 .slots) (h .slots) (h .i) (omega arith) (omega arith) (h .inv .2)))
 
 pub hold-searches-spec : {M : Type 1} → statement M
 hold-searches-spec =

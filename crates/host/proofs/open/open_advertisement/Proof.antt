@@ -1,3 +1,4 @@
+-- All but the waiting reply is copied.
 use mathlib.Core.Path.{sym, ap}
 use Rattle.engine.specs.declared.advertisement.ResponseNeeded.{ResponseNeeded}
 use Rattle.engine.specs.declared.advertisement.ActiveAdvertisement.{ActiveAdvertisement}
@@ -6,15 +7,10 @@ use Rattle.host.proofs.Tables.{with-wait}
 use borrow.Author.Needs.{needs}
 use Rattle.host.proofs.open.open_advertisement.Statement.{statement}
 use Rattle.host.proofs.open.open_advertisement.Tie as tie
-use Rattle.host.proofs.open.open_advertisement.Reads as reads
-use Rattle.host.proofs.open.open_advertisement.Lts as lts
-use Rattle.host.proofs.open.open_needed.Reads as open-needed-reads
 
--- src/open.rt:120:9
 open-needed-requires : tie.Need-open-needed-requires
 open-needed-requires c κs = search needs
 
--- src/open.rt:113:1
 returns : tie.Need-returns
 returns c = ap (with-wait (advertisementOf (c .before .before .before .before .before .args .a))) (c .open-needed .ensures)
 

@@ -1,18 +1,14 @@
+-- Each return goes by the tests passed.
 use borrow.Author.Tests.{eq-eqb, ne-eqb}
 use Rattle.host.proofs.open.open_needed.Statement.{statement}
 use Rattle.host.proofs.open.open_needed.Tie as tie
-use Rattle.host.proofs.open.open_needed.Reads as reads
-use Rattle.host.proofs.open.open_needed.Lts as lts
 
--- src/open.rt:101:9
 returns : tie.Need-returns
 returns c = simp (eq-eqb _ _ (c .if1 .taken))
 
--- src/open.rt:108:9
 returns-2 : tie.Need-returns-2
 returns-2 c = simp (ne-eqb _ _ (c .before .if1 .left), eq-eqb _ _ (c .if2 .taken))
 
--- src/open.rt:96:1
 returns-3 : tie.Need-returns-3
 returns-3 c = simp (ne-eqb _ _ (c .before .if1 .left), ne-eqb _ _ (c .if2 .left))
 

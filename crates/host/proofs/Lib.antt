@@ -1,4 +1,4 @@
--- Laws that belong to no one function. Tables: a loop over the slots of a table. Quiet: calls that change nothing. Crossing: an exported call's promise from the
+-- Laws that belong to no one function. Tables: a table written out. Quiet: calls that change nothing. Crossing: an exported call's promise from the
 -- engine's own. Inverse: opening and holding. Lent: what an exported call keeps of its other parameters.
 pub mod Tables
 pub mod Quiet

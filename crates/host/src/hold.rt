@@ -37,15 +37,6 @@ fn hold_timer(t: RefreshTimer) -> HeldTimer
     }
 }
 
-fn no_link() -> HeldLink {
-    HeldLink {
-        index: 0,
-        up: 0,
-        count: 0,
-        addresses: [0; 2],
-    }
-}
-
 fn hold_link(l: Interface) -> HeldLink
     ensures { λ r. ⌜ r ≡ heldLink l ⌝ }
 {
@@ -62,25 +53,15 @@ fn hold_link(l: Interface) -> HeldLink
 fn hold_links(t: Interfaces) -> HeldLinks
     ensures { λ r. ⌜ r ≡ heldLinks t ⌝ }
 {
-    let blank = no_link();
-    let mut slots = [blank; 3];
-    let mut i = 0;
-    while i < 3 {
-        let from = t.slots[i];
-        let link = hold_link(from);
-        slots[i] = link;
-        i += 1;
-    }
+    let s0 = t.slots[0];
+    let s1 = t.slots[1];
+    let s2 = t.slots[2];
+    let a0 = hold_link(s0);
+    let a1 = hold_link(s1);
+    let a2 = hold_link(s2);
     HeldLinks {
         count: t.count,
-        slots: slots,
-    }
-}
-
-fn no_search() -> HeldSearch {
-    HeldSearch {
-        kind: [0; 80],
-        kind_len: 0,
+        slots: [a0, a1, a2],
     }
 }
 
@@ -97,36 +78,17 @@ fn hold_search(s: ActiveSearch) -> HeldSearch
 fn hold_searches(t: ActiveSearches) -> HeldSearches
     ensures { λ r. ⌜ r ≡ heldSearches t ⌝ }
 {
-    let blank = no_search();
-    let mut slots = [blank; 4];
-    let mut i = 0;
-    while i < 4 {
-        let from = t.slots[i];
-        let search = hold_search(from);
-        slots[i] = search;
-        i += 1;
-    }
+    let s0 = t.slots[0];
+    let s1 = t.slots[1];
+    let s2 = t.slots[2];
+    let s3 = t.slots[3];
+    let a0 = hold_search(s0);
+    let a1 = hold_search(s1);
+    let a2 = hold_search(s2);
+    let a3 = hold_search(s3);
     HeldSearches {
         count: t.count,
-        slots: slots,
-    }
-}
-
-fn no_advertisement() -> HeldAdvertisement {
-    HeldAdvertisement {
-        name: [0; 128],
-        name_len: 0,
-        kind: [0; 80],
-        kind_len: 0,
-        location: [0; 120],
-        location_len: 0,
-        answer: [0; 80],
-        answer_len: 0,
-        due: 0,
-        sender: 0,
-        receiver: 0,
-        port: 0,
-        needed: 0,
+        slots: [a0, a1, a2, a3],
     }
 }
 
@@ -202,18 +164,25 @@ fn hold_advertisement(a: ActiveAdvertisement) -> HeldAdvertisement
 fn hold_advertisements(t: Advertisements) -> HeldAdvertisements
     ensures { λ r. ⌜ r ≡ heldAdvertisements t ⌝ }
 {
-    let blank = no_advertisement();
-    let mut slots = [blank; 8];
-    let mut i = 0;
-    while i < 8 {
-        let from = t.slots[i];
-        let a = hold_advertisement(from);
-        slots[i] = a;
-        i += 1;
-    }
+    let s0 = t.slots[0];
+    let s1 = t.slots[1];
+    let s2 = t.slots[2];
+    let s3 = t.slots[3];
+    let s4 = t.slots[4];
+    let s5 = t.slots[5];
+    let s6 = t.slots[6];
+    let s7 = t.slots[7];
+    let a0 = hold_advertisement(s0);
+    let a1 = hold_advertisement(s1);
+    let a2 = hold_advertisement(s2);
+    let a3 = hold_advertisement(s3);
+    let a4 = hold_advertisement(s4);
+    let a5 = hold_advertisement(s5);
+    let a6 = hold_advertisement(s6);
+    let a7 = hold_advertisement(s7);
     HeldAdvertisements {
         count: t.count,
-        slots: slots,
+        slots: [a0, a1, a2, a3, a4, a5, a6, a7],
     }
 }
 

@@ -1,5 +1,5 @@
-// The engine that the host's numbers stand for: opened on entry of each call. What a loop starts from comes from a call, since a
-// long literal in the loop's own function is written out in every goal.
+// The engine that the host's numbers stand for: opened on entry of each call. Tables are written out slot by slot, which compiles to
+// far less copying than a loop over a local array.
 use crate::held::HeldAdvertisement;
 use crate::held::HeldAdvertisements;
 use crate::held::HeldEngine;
@@ -43,30 +43,18 @@ fn open_link(l: HeldLink) -> Interface
     }
 }
 
-fn no_link() -> Interface {
-    Interface {
-        index: 0,
-        up: false,
-        count: 0,
-        addresses: [0; 2],
-    }
-}
-
 fn open_links(t: HeldLinks) -> Interfaces
     ensures { λ r. ⌜ r ≡ linksOf t ⌝ }
 {
-    let blank = no_link();
-    let mut slots = [blank; 3];
-    let mut i = 0;
-    while i < 3 {
-        let from = t.slots[i];
-        let link = open_link(from);
-        slots[i] = link;
-        i += 1;
-    }
+    let s0 = t.slots[0];
+    let s1 = t.slots[1];
+    let s2 = t.slots[2];
+    let a0 = open_link(s0);
+    let a1 = open_link(s1);
+    let a2 = open_link(s2);
     Interfaces {
         count: t.count,
-        slots: slots,
+        slots: [a0, a1, a2],
     }
 }
 
@@ -80,28 +68,20 @@ fn open_search(s: HeldSearch) -> ActiveSearch
     }
 }
 
-fn no_search() -> ActiveSearch {
-    ActiveSearch {
-        kind: [0; 80],
-        kind_len: 0,
-    }
-}
-
 fn open_searches(t: HeldSearches) -> ActiveSearches
     ensures { λ r. ⌜ r ≡ searchesOf t ⌝ }
 {
-    let blank = no_search();
-    let mut slots = [blank; 4];
-    let mut i = 0;
-    while i < 4 {
-        let from = t.slots[i];
-        let search = open_search(from);
-        slots[i] = search;
-        i += 1;
-    }
+    let s0 = t.slots[0];
+    let s1 = t.slots[1];
+    let s2 = t.slots[2];
+    let s3 = t.slots[3];
+    let a0 = open_search(s0);
+    let a1 = open_search(s1);
+    let a2 = open_search(s2);
+    let a3 = open_search(s3);
     ActiveSearches {
         count: t.count,
-        slots: slots,
+        slots: [a0, a1, a2, a3],
     }
 }
 
@@ -144,36 +124,28 @@ fn open_advertisement(a: HeldAdvertisement) -> ActiveAdvertisement
     }
 }
 
-fn no_advertisement() -> ActiveAdvertisement {
-    let none = ResponseNeeded::None;
-    ActiveAdvertisement {
-        name: [0; 128],
-        name_len: 0,
-        kind: [0; 80],
-        kind_len: 0,
-        location: [0; 120],
-        location_len: 0,
-        response_needed: none,
-        answer: [0; 80],
-        answer_len: 0,
-    }
-}
-
 fn open_advertisements(t: HeldAdvertisements) -> Advertisements
     ensures { λ r. ⌜ r ≡ advertisementsOf t ⌝ }
 {
-    let blank = no_advertisement();
-    let mut slots = [blank; 8];
-    let mut i = 0;
-    while i < 8 {
-        let from = t.slots[i];
-        let a = open_advertisement(from);
-        slots[i] = a;
-        i += 1;
-    }
+    let s0 = t.slots[0];
+    let s1 = t.slots[1];
+    let s2 = t.slots[2];
+    let s3 = t.slots[3];
+    let s4 = t.slots[4];
+    let s5 = t.slots[5];
+    let s6 = t.slots[6];
+    let s7 = t.slots[7];
+    let a0 = open_advertisement(s0);
+    let a1 = open_advertisement(s1);
+    let a2 = open_advertisement(s2);
+    let a3 = open_advertisement(s3);
+    let a4 = open_advertisement(s4);
+    let a5 = open_advertisement(s5);
+    let a6 = open_advertisement(s6);
+    let a7 = open_advertisement(s7);
     Advertisements {
         count: t.count,
-        slots: slots,
+        slots: [a0, a1, a2, a3, a4, a5, a6, a7],
     }
 }
 

@@ -1,79 +1,48 @@
--- Each turn holds one slot more.
-use mathlib.Core.Path.{_≡_, refl, sym, _∙_, ap}
-use mathlib.Core.List.{List, map}
-use Prim.Native.Nat.{ℕ, _≤_, _-_}
+-- Slot by slot.
+use mathlib.Core.Path.{_≡_, sym, _∙_, ap}
+use mathlib.Core.List.{List}
 use native.Mathlib.Omega.{arith}
-use lib.ListN.{length, length-map, length-set, take}
+use lib.ListN.{length, length-map}
+use borrow.Author.Needs.{needs}
 use Rattle.host.specs.declared.held.HeldSearch.{HeldSearch}
 use Rattle.host.specs.declared.held.HeldSearches.{HeldSearches}
 use Rattle.host.specs.Holding.{heldSearch, heldSearches}
-use Rattle.host.proofs.Tables as tables
+use Rattle.host.proofs.Tables.{slot, no-more}
 use Rattle.host.proofs.hold.hold_searches.Statement.{statement}
 use Rattle.host.proofs.hold.hold_searches.Tie as tie
 
-abbrev Inv-loop : tie.InvT-loop
-Inv-loop t slots₀ i₀ slots i = (i ≤ 4) × (length slots ≡ 4) × (map heldSearch (take i (t .slots)) ≡ take i slots)
+element-copy-out-s0 : tie.Need-element-copy-out-s0
+element-copy-out-s0 c = search needs
 
-abbrev μ-loop : tie.MeasureT-loop
-μ-loop t slots₀ i₀ slots i = 4 - i
+element-copy-out-s1 : tie.Need-element-copy-out-s1
+element-copy-out-s1 c = search needs
 
-no-search-requires : tie.Need-no-search-requires Inv-loop μ-loop
-no-search-requires c κs = tt
+element-copy-out-s2 : tie.Need-element-copy-out-s2
+element-copy-out-s2 c = search needs
 
-loop-holds : tie.Need-loop-holds Inv-loop μ-loop
-loop-holds c = (omega arith, refl, refl)
+element-copy-out-s3 : tie.Need-element-copy-out-s3
+element-copy-out-s3 c = search needs
 
-mul-from : tie.Need-mul-from Inv-loop μ-loop
-mul-from c = omega arith
+hold-search-requires : tie.Need-hold-search-requires
+hold-search-requires c κs = search needs
 
-element-copy-out-from : tie.Need-element-copy-out-from Inv-loop μ-loop
-element-copy-out-from c = omega arith
+hold-search-requires-2 : tie.Need-hold-search-requires-2
+hold-search-requires-2 c κs = search needs
 
-hold-search-requires : tie.Need-hold-search-requires Inv-loop μ-loop
-hold-search-requires c κs = tt
+hold-search-requires-3 : tie.Need-hold-search-requires-3
+hold-search-requires-3 c κs = search needs
 
-mul-slots : tie.Need-mul-slots Inv-loop μ-loop
-mul-slots c = omega arith
+hold-search-requires-4 : tie.Need-hold-search-requires-4
+hold-search-requires-4 c κs = search needs
 
-array-set-from-slots : tie.Need-array-set-from-slots Inv-loop μ-loop
-array-set-from-slots c = omega arith
-
-add-i : tie.Need-add-i Inv-loop μ-loop
-add-i c = omega arith
-
-loop-less : tie.Need-loop-less Inv-loop μ-loop
-loop-less c = omega arith
-
-loop-again : tie.Need-loop-again Inv-loop μ-loop
-loop-again c =
-    let s = c .before .before .before .before .before in
-    let h = c .before .before .before .loop in
-    let g : length (s .args .t1 .slots) ≡ 4 = sym (length-map (s .args .t1 .slots) _) ∙ s .good .0 .1 .1 .1 .0 .1 .0 .1 in
-    (omega arith, simp length-set (h .inv .1), tables.opened heldSearch (s .args .t1 .slots) (h .slots) (h .i) (c .hold-search .result) _ (omega arith) (omega arith) (h .inv .2) (c .hold-search .ensures))
-
-returns : tie.Need-returns Inv-loop μ-loop
+returns : tie.Need-returns
 unfolding heldSearches
 returns c =
-    let s = c .before .before .before in
-    let h = c .before .loop in
-    let g : length (s .args .t1 .slots) ≡ 4 = sym (length-map (s .args .t1 .slots) _) ∙ s .good .0 .1 .1 .1 .0 .1 .0 .1 in
-    let table : List HeldSearch → HeldSearches = λ l. record { count = s .args .t1 .count; slots = l } in
-    ap table (sym (tables.whole heldSearch (s .args .t1 .slots) (h .slots) (h .i) (omega arith) (omega arith) (h .inv .2)))
+    let s = c .before .before .before .before .before .before .before .before in
+    let l = s .args .t1 .slots in
+    let g : length l ≡ 4 = sym (length-map l _) ∙ s .good .0 .1 .1 .1 .0 .1 .0 .1 in
+    let table : List HeldSearch → HeldSearches = λ w. record { count = s .args .t1 .count; slots = w } in
+    ap table (slot heldSearch l 0 _ (omega arith) (c .before .before .before .hold-search .ensures) (slot heldSearch l 1 _ (omega arith) (c .before .before .hold-search2 .ensures) (slot heldSearch l 2 _ (omega arith) (c .before .hold-search3 .ensures) (slot heldSearch l 3 _ (omega arith) (c .hold-search4 .ensures) (no-more heldSearch l 4 g)))))
 
 pub hold-searches-spec : {M : Type 1} → statement M
-hold-searches-spec =
-    tie.close
-    (tie.spec
-    Inv-loop
-    μ-loop
-    no-search-requires
-    loop-holds
-    mul-from
-    element-copy-out-from
-    hold-search-requires
-    mul-slots
-    array-set-from-slots
-    add-i
-    loop-less
-    loop-again
-    returns)
+hold-searches-spec = tie.close (tie.spec element-copy-out-s0 element-copy-out-s1 element-copy-out-s2 element-copy-out-s3 hold-search-requires hold-search-requires-2 hold-search-requires-3 hold-search-requires-4 returns)

@@ -1,79 +1,72 @@
--- Each turn opens one slot more.
-use mathlib.Core.Path.{_≡_, refl, sym, _∙_, ap}
-use mathlib.Core.List.{List, map}
-use Prim.Native.Nat.{ℕ, _≤_, _-_}
+-- Slot by slot.
+use mathlib.Core.Path.{_≡_, sym, _∙_, ap}
+use mathlib.Core.List.{List}
 use native.Mathlib.Omega.{arith}
-use lib.ListN.{length, length-map, length-set, take}
+use lib.ListN.{length, length-map}
+use borrow.Author.Needs.{needs}
 use Rattle.engine.specs.declared.advertisement.ActiveAdvertisement.{ActiveAdvertisement}
 use Rattle.engine.specs.declared.advertisement.Advertisements.{Advertisements}
 use Rattle.host.specs.Held.{advertisementOf, advertisementsOf}
-use Rattle.host.proofs.Tables as tables
+use Rattle.host.proofs.Tables.{slot, no-more}
 use Rattle.host.proofs.open.open_advertisements.Statement.{statement}
 use Rattle.host.proofs.open.open_advertisements.Tie as tie
 
-abbrev Inv-loop : tie.InvT-loop
-Inv-loop t slots₀ i₀ slots i = (i ≤ 8) × (length slots ≡ 8) × (map advertisementOf (take i (t .slots)) ≡ take i slots)
+element-copy-out-s0 : tie.Need-element-copy-out-s0
+element-copy-out-s0 c = search needs
 
-abbrev μ-loop : tie.MeasureT-loop
-μ-loop t slots₀ i₀ slots i = 8 - i
+element-copy-out-s1 : tie.Need-element-copy-out-s1
+element-copy-out-s1 c = search needs
 
-no-advertisement-requires : tie.Need-no-advertisement-requires Inv-loop μ-loop
-no-advertisement-requires c κs = tt
+element-copy-out-s2 : tie.Need-element-copy-out-s2
+element-copy-out-s2 c = search needs
 
-loop-holds : tie.Need-loop-holds Inv-loop μ-loop
-loop-holds c = (omega arith, refl, refl)
+element-copy-out-s3 : tie.Need-element-copy-out-s3
+element-copy-out-s3 c = search needs
 
-mul-from : tie.Need-mul-from Inv-loop μ-loop
-mul-from c = omega arith
+element-copy-out-s4 : tie.Need-element-copy-out-s4
+element-copy-out-s4 c = search needs
 
-element-copy-out-from : tie.Need-element-copy-out-from Inv-loop μ-loop
-element-copy-out-from c = omega arith
+element-copy-out-s5 : tie.Need-element-copy-out-s5
+element-copy-out-s5 c = search needs
 
-open-advertisement-requires : tie.Need-open-advertisement-requires Inv-loop μ-loop
-open-advertisement-requires c κs = tt
+element-copy-out-s6 : tie.Need-element-copy-out-s6
+element-copy-out-s6 c = search needs
 
-mul-slots : tie.Need-mul-slots Inv-loop μ-loop
-mul-slots c = omega arith
+element-copy-out-s7 : tie.Need-element-copy-out-s7
+element-copy-out-s7 c = search needs
 
-array-set-from-slots : tie.Need-array-set-from-slots Inv-loop μ-loop
-array-set-from-slots c = omega arith
+open-advertisement-requires : tie.Need-open-advertisement-requires
+open-advertisement-requires c κs = search needs
 
-add-i : tie.Need-add-i Inv-loop μ-loop
-add-i c = omega arith
+open-advertisement-requires-2 : tie.Need-open-advertisement-requires-2
+open-advertisement-requires-2 c κs = search needs
 
-loop-less : tie.Need-loop-less Inv-loop μ-loop
-loop-less c = omega arith
+open-advertisement-requires-3 : tie.Need-open-advertisement-requires-3
+open-advertisement-requires-3 c κs = search needs
 
-loop-again : tie.Need-loop-again Inv-loop μ-loop
-loop-again c =
-    let s = c .before .before .before .before .before in
-    let h = c .before .before .before .loop in
-    let g : length (s .args .t1 .slots) ≡ 8 = sym (length-map (s .args .t1 .slots) _) ∙ s .good .0 .1 .1 .1 .0 .1 .0 .1 in
-    (omega arith, simp length-set (h .inv .1), tables.opened advertisementOf (s .args .t1 .slots) (h .slots) (h .i) (c .open-advertisement .result) _ (omega arith) (omega arith) (h .inv .2) (c .open-advertisement .ensures))
+open-advertisement-requires-4 : tie.Need-open-advertisement-requires-4
+open-advertisement-requires-4 c κs = search needs
 
-returns : tie.Need-returns Inv-loop μ-loop
+open-advertisement-requires-5 : tie.Need-open-advertisement-requires-5
+open-advertisement-requires-5 c κs = search needs
+
+open-advertisement-requires-6 : tie.Need-open-advertisement-requires-6
+open-advertisement-requires-6 c κs = search needs
+
+open-advertisement-requires-7 : tie.Need-open-advertisement-requires-7
+open-advertisement-requires-7 c κs = search needs
+
+open-advertisement-requires-8 : tie.Need-open-advertisement-requires-8
+open-advertisement-requires-8 c κs = search needs
+
+returns : tie.Need-returns
 unfolding advertisementsOf
 returns c =
-    let s = c .before .before .before in
-    let h = c .before .loop in
-    let g : length (s .args .t1 .slots) ≡ 8 = sym (length-map (s .args .t1 .slots) _) ∙ s .good .0 .1 .1 .1 .0 .1 .0 .1 in
-    let table : List ActiveAdvertisement → Advertisements = λ l. record { count = s .args .t1 .count; slots = l } in
-    ap table (sym (tables.whole advertisementOf (s .args .t1 .slots) (h .slots) (h .i) (omega arith) (omega arith) (h .inv .2)))
+    let s = c .before .before .before .before .before .before .before .before .before .before .before .before .before .before .before .before in
+    let l = s .args .t1 .slots in
+    let g : length l ≡ 8 = sym (length-map l _) ∙ s .good .0 .1 .1 .1 .0 .1 .0 .1 in
+    let table : List ActiveAdvertisement → Advertisements = λ w. record { count = s .args .t1 .count; slots = w } in
+    ap table (slot advertisementOf l 0 _ (omega arith) (c .before .before .before .before .before .before .before .open-advertisement .ensures) (slot advertisementOf l 1 _ (omega arith) (c .before .before .before .before .before .before .open-advertisement2 .ensures) (slot advertisementOf l 2 _ (omega arith) (c .before .before .before .before .before .open-advertisement3 .ensures) (slot advertisementOf l 3 _ (omega arith) (c .before .before .before .before .open-advertisement4 .ensures) (slot advertisementOf l 4 _ (omega arith) (c .before .before .before .open-advertisement5 .ensures) (slot advertisementOf l 5 _ (omega arith) (c .before .before .open-advertisement6 .ensures) (slot advertisementOf l 6 _ (omega arith) (c .before .open-advertisement7 .ensures) (slot advertisementOf l 7 _ (omega arith) (c .open-advertisement8 .ensures) (no-more advertisementOf l 8 g)))))))))
 
 pub open-advertisements-spec : {M : Type 1} → statement M
-open-advertisements-spec =
-    tie.close
-    (tie.spec
-    Inv-loop
-    μ-loop
-    no-advertisement-requires
-    loop-holds
-    mul-from
-    element-copy-out-from
-    open-advertisement-requires
-    mul-slots
-    array-set-from-slots
-    add-i
-    loop-less
-    loop-again
-    returns)
+open-advertisements-spec = tie.close (tie.spec element-copy-out-s0 element-copy-out-s1 element-copy-out-s2 element-copy-out-s3 element-copy-out-s4 element-copy-out-s5 element-copy-out-s6 element-copy-out-s7 open-advertisement-requires open-advertisement-requires-2 open-advertisement-requires-3 open-advertisement-requires-4 open-advertisement-requires-5 open-advertisement-requires-6 open-advertisement-requires-7 open-advertisement-requires-8 returns)

@@ -8,7 +8,7 @@ use types.Kit.{Given}
 use denote.Exit.{Kept, left}
 use denote.Signature.{Slot}
 use denote.Triple.End.{Kepts}
-use denote.Triple.Walked.{Stay, Stays, Goes, AllGo}
+use denote.Triple.Walked.{Stay, Stays, AllGo}
 
 -- the parameters behind the first
 abbrev pub behind : {n : ℕ} → List (Slot n) → List (Slot n)

@@ -1,7 +1,7 @@
 -- The engine that the host's numbers stand for.
 use Prim.Native.Nat.{ℕ}
-use mathlib.Core.Bool.{Bool, cond, not}
-use mathlib.Core.List.{List, map}
+use mathlib.Core.Bool.{cond, not}
+use mathlib.Core.List.{map}
 use lib.Dec.{eqb}
 use Rattle.engine.specs.declared.refresh_timer.RefreshTimer.{RefreshTimer}
 use Rattle.engine.specs.declared.interface.Interface.{Interface}

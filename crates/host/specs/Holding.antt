@@ -2,13 +2,11 @@
 use Prim.Native.Nat.{ℕ}
 use mathlib.Core.Bool.{cond}
 use mathlib.Core.List.{List, [], _∷_, map}
-use mathlib.Core.Path.{_≡_}
 use Rattle.engine.specs.declared.refresh_timer.RefreshTimer.{RefreshTimer}
 use Rattle.engine.specs.declared.interface.Interface.{Interface}
 use Rattle.engine.specs.declared.interface.Interfaces.{Interfaces}
 use Rattle.engine.specs.declared.subscription.ActiveSearch.{ActiveSearch}
 use Rattle.engine.specs.declared.subscription.ActiveSearches.{ActiveSearches}
-use Rattle.engine.specs.declared.advertisement.Endpoint.{Endpoint}
 use Rattle.engine.specs.declared.advertisement.ResponseNeeded.{ResponseNeeded}
 use Rattle.engine.specs.declared.advertisement.ResponseNeeded.the-variants.{None, Multicast, Unicast}
 use Rattle.engine.specs.declared.advertisement.ActiveAdvertisement.{ActiveAdvertisement}

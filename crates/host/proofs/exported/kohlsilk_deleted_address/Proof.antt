@@ -17,8 +17,8 @@ use ghost.Atoms.{Atoms}
 use contract.Monad.{Fun, fact}
 use contract.Running.{givenOf, tables, tablesOf}
 use types.Kit.{Given, ‵, raw, given, _⊛_, ⋆, some, later, _$_, _∵_, !, qed, by, move, keep, drop, use1, use3, split, join, pick, learn, rewrite, fsplit, fsplit3, fjoin, fjoin3, feqI, suffices, frame, await, done}
-use types.Run.{look, look-raw, store-raw, init, forget, stop, hop, fld, from, load, addr, of-opd, assigns, and-then, no-more, land, returns, enter, alloc1, alloc0, params1, pass1, pass0, free1, free0}
-use types.Part.{agg, whole, sub, look-in}
+use types.Run.{look, look-raw, store-raw, init, forget, stop, hop, fld, from, load, of-opd, assigns, and-then, no-more, land, returns, enter, alloc1, alloc0, params1, pass1, pass0, free1, free0}
+use types.Part.{whole, sub, look-in}
 use types.SemTy.{Body}
 use sound.WpLaws.{FmC, fmOf, WpFn-mono}
 use denote.RattleType.{owns}
@@ -29,7 +29,7 @@ use denote.Builtin.{u32, u8}
 use denote.Ref.{RefT, MutRef, ptr-vals, mut-tells}
 use denote.Slice.{sliceVal, slice-vals, ShrSlice, shr-slice-tells, shr-slice-lawful}
 use denote.Signature.{plain}
-use denote.Steps.{only, opens, closes, peeks, heard, nothing}
+use denote.Steps.{only, opens, closes, peeks, heard}
 use denote.Struct.Steps.{spelt}
 use denote.Struct.Laws as LL
 use denote.Struct.Rest.{all-own, own-open}

@@ -29,7 +29,7 @@ use denote.Builtin.{u32, u8}
 use denote.Ref.{RefT, MutRef, ptr-vals, mut-tells}
 use denote.Slice.{sliceVal, slice-vals, MutSlice, mut-slice-tells, mut-slice-lawful, ShrSlice, shr-slice-tells, shr-slice-lawful}
 use denote.Signature.{plain}
-use denote.Steps.{only, opens, closes, peeks, heard, nothing}
+use denote.Steps.{only, opens, closes, peeks, heard}
 use denote.Struct.Steps.{spelt}
 use denote.Struct.Laws as LL
 use denote.Struct.Rest.{all-own, own-open}

@@ -1,5 +1,5 @@
 -- All but the waiting reply is copied.
-use mathlib.Core.Path.{sym, ap}
+use mathlib.Core.Path.{ap}
 use Rattle.host.specs.Holding.{withWait}
 use borrow.Author.Needs.{needs}
 use Rattle.host.proofs.hold.hold_advertisement.Statement.{statement}

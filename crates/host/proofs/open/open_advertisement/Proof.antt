@@ -1,7 +1,5 @@
 -- All but the waiting reply is copied.
-use mathlib.Core.Path.{sym, ap}
-use Rattle.engine.specs.declared.advertisement.ResponseNeeded.{ResponseNeeded}
-use Rattle.engine.specs.declared.advertisement.ActiveAdvertisement.{ActiveAdvertisement}
+use mathlib.Core.Path.{ap}
 use Rattle.host.specs.Held.{advertisementOf}
 use Rattle.host.proofs.Tables.{with-wait}
 use borrow.Author.Needs.{needs}

@@ -19,6 +19,7 @@ pub extern "C" fn kohlsilk_new(engine: &mut HeldEngine, random_seed: u32, time: 
     done.answer
 }
 
+// Begins the refresh salvos anew, as after the network was away.
 #[no_mangle]
 pub extern "C" fn kohlsilk_reset_refresh_timer(engine: &mut HeldEngine, time: u64) -> HeldAnswer
     ensures { λ r. ⌜ Crosses (now (engine .entry)) (ResetTimer time) [] [] (now (engine .exit)) r ⌝ }
@@ -30,6 +31,7 @@ pub extern "C" fn kohlsilk_reset_refresh_timer(engine: &mut HeldEngine, time: u6
     done.answer
 }
 
+// Sends all announcements, then the searches.
 #[no_mangle]
 pub extern "C" fn kohlsilk_refresh(engine: &mut HeldEngine, outbox: &mut [u8]) -> HeldAnswer
     ensures { λ r. ⌜ Crosses (now (engine .entry)) (Refresh (length (now (outbox .entry)))) (now (outbox .entry)) (now (outbox .exit)) (now (engine .exit)) r ⌝ }
@@ -41,6 +43,7 @@ pub extern "C" fn kohlsilk_refresh(engine: &mut HeldEngine, outbox: &mut [u8]) -
     done.answer
 }
 
+// A link is there, or is up or down; `outcome` is what joining the group on it gave.
 #[no_mangle]
 pub extern "C" fn kohlsilk_new_link(
     engine: &mut HeldEngine,
@@ -58,6 +61,7 @@ pub extern "C" fn kohlsilk_new_link(
     done.answer
 }
 
+// A link has gone; `outcome` is what leaving the group on it gave.
 #[no_mangle]
 pub extern "C" fn kohlsilk_deleted_link(
     engine: &mut HeldEngine,
@@ -73,6 +77,7 @@ pub extern "C" fn kohlsilk_deleted_link(
     done.answer
 }
 
+// An address is there: its four bytes.
 #[no_mangle]
 pub extern "C" fn kohlsilk_new_address(
     engine: &mut HeldEngine,
@@ -89,6 +94,7 @@ pub extern "C" fn kohlsilk_new_address(
     done.answer
 }
 
+// An address has gone.
 #[no_mangle]
 pub extern "C" fn kohlsilk_deleted_address(
     engine: &mut HeldEngine,
@@ -104,6 +110,7 @@ pub extern "C" fn kohlsilk_deleted_address(
     done.answer
 }
 
+// Searches for a type, now and at each refresh.
 #[no_mangle]
 pub extern "C" fn kohlsilk_subscribe(
     engine: &mut HeldEngine,
@@ -119,6 +126,7 @@ pub extern "C" fn kohlsilk_subscribe(
     done.answer
 }
 
+// Announces a service under a name, now and at each refresh.
 #[no_mangle]
 pub extern "C" fn kohlsilk_advertise(
     engine: &mut HeldEngine,
@@ -136,6 +144,7 @@ pub extern "C" fn kohlsilk_advertise(
     done.answer
 }
 
+// Says that a service has gone.
 #[no_mangle]
 pub extern "C" fn kohlsilk_deadvertise(
     engine: &mut HeldEngine,
@@ -151,6 +160,7 @@ pub extern "C" fn kohlsilk_deadvertise(
     done.answer
 }
 
+// A datagram has come from `sender` and `port`, at the address `receiver`.
 #[no_mangle]
 pub extern "C" fn kohlsilk_on_data(
     engine: &mut HeldEngine,
@@ -169,6 +179,7 @@ pub extern "C" fn kohlsilk_on_data(
     done.answer
 }
 
+// Sends the refresh records, if the salvo is due, and the replies that are due.
 #[no_mangle]
 pub extern "C" fn kohlsilk_handle_timeout(
     engine: &mut HeldEngine,

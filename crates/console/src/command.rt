@@ -31,63 +31,36 @@ pub enum Word {
     Hexdeladdr,
 }
 
-// What a line asks for. A text is a part of the line.
+// What a line asks for, with its fields in the line's order. A text is a part of the line.
 pub enum Command {
     Unreadable,
-    New {
-        seed: u32,
-        time: u64,
-    },
-    NewLink {
-        index: u32,
-        flags: u32,
-        outcome: u32,
-    },
-    DeletedLink {
-        index: u32,
-        outcome: u32,
-    },
-    NewAddress {
-        index: u32,
-        address: u32,
-    },
-    DeletedAddress {
-        index: u32,
-        address: u32,
-    },
+    // seed, time
+    New(u32, u64),
+    // index, flags, outcome
+    NewLink(u32, u32, u32),
+    // index, outcome
+    DeletedLink(u32, u32),
+    // index, address
+    NewAddress(u32, u32),
+    DeletedAddress(u32, u32),
+    // type
     Subscribe(Place),
-    Advertise {
-        name: Place,
-        kind: Place,
-        location: Place,
-    },
+    // name, type, location
+    Advertise(Place, Place, Place),
+    // name
     Deadvertise(Place),
     Refresh,
-    Datagram {
-        time: u64,
-        sender: u32,
-        port: u16,
-        receiver: u32,
-        text: Place,
-    },
+    // time, sender, port, receiving address, datagram
+    Datagram(u64, u32, u16, u32, Place),
+    // time
     Timeout(u64),
     Reset(u64),
+    // bytes
     Lend(u64),
-    HexDatagram {
-        time: u64,
-        sender: u32,
-        port: u16,
-        receiver: u32,
-        digits: Place,
-    },
-    NewHexAddress {
-        index: u32,
-        digits: Place,
-    },
-    DeletedHexAddress {
-        index: u32,
-        digits: Place,
-    },
+    // as Datagram, NewAddress and DeletedAddress, the last field in hexadecimal
+    HexDatagram(u64, u32, u16, u32, Place),
+    NewHexAddress(u32, Place),
+    DeletedHexAddress(u32, Place),
 }
 
 // The kinds of a line's fields behind its word, in order.
@@ -319,60 +292,34 @@ fn built_of(word: Word, fields: Data) -> Command
     let fifth = fields.fifth;
     match word {
         Word::Unknown => Command::Unreadable,
-        Word::New => Command::New {
-            seed: u32_in(first),
-            time: u64_in(second),
-        },
-        Word::Link => Command::NewLink {
-            index: u32_in(first),
-            flags: u32_in(second),
-            outcome: u32_in(third),
-        },
-        Word::Addr => Command::NewAddress {
-            index: u32_in(first),
-            address: u32_in(second),
-        },
-        Word::Advertise => Command::Advertise {
-            name: part_in(first),
-            kind: part_in(second),
-            location: part_in(third),
-        },
-        Word::Data => Command::Datagram {
-            time: u64_in(first),
-            sender: u32_in(second),
-            port: u16_in(third),
-            receiver: u32_in(fourth),
-            text: part_in(fifth),
-        },
+        Word::New => Command::New(u32_in(first), u64_in(second)),
+        Word::Link => Command::NewLink(u32_in(first), u32_in(second), u32_in(third)),
+        Word::Addr => Command::NewAddress(u32_in(first), u32_in(second)),
+        Word::Advertise => Command::Advertise(part_in(first), part_in(second), part_in(third)),
+        Word::Data => Command::Datagram(
+            u64_in(first),
+            u32_in(second),
+            u16_in(third),
+            u32_in(fourth),
+            part_in(fifth),
+        ),
         Word::Timeout => Command::Timeout(u64_in(first)),
-        Word::Dellink => Command::DeletedLink {
-            index: u32_in(first),
-            outcome: u32_in(second),
-        },
-        Word::Deladdr => Command::DeletedAddress {
-            index: u32_in(first),
-            address: u32_in(second),
-        },
+        Word::Dellink => Command::DeletedLink(u32_in(first), u32_in(second)),
+        Word::Deladdr => Command::DeletedAddress(u32_in(first), u32_in(second)),
         Word::Subscribe => Command::Subscribe(part_in(first)),
         Word::Deadvertise => Command::Deadvertise(part_in(first)),
         Word::Refresh => Command::Refresh,
         Word::Reset => Command::Reset(u64_in(first)),
         Word::Outbox => Command::Lend(u64_in(first)),
-        Word::Hexdata => Command::HexDatagram {
-            time: u64_in(first),
-            sender: u32_in(second),
-            port: u16_in(third),
-            receiver: u32_in(fourth),
-            digits: part_in(fifth),
-        },
-        Word::Hexaddr => Command::NewHexAddress {
-            index: u32_in(first),
-            digits: part_in(second),
-        },
-        Word::Hexdeladdr => Command::DeletedHexAddress {
-            index: u32_in(first),
-            digits: part_in(second),
-        },
+        Word::Hexdata => Command::HexDatagram(
+            u64_in(first),
+            u32_in(second),
+            u16_in(third),
+            u32_in(fourth),
+            part_in(fifth),
+        ),
+        Word::Hexaddr => Command::NewHexAddress(u32_in(first), part_in(second)),
+        Word::Hexdeladdr => Command::DeletedHexAddress(u32_in(first), part_in(second)),
     }
 }
 

@@ -96,7 +96,7 @@ fn begin(seed: u32, time: u64) -> Reply
 fn obey_first(s: Session, command: Command) -> Reply
     ensures { λ r. ⌜ ((line outbox : List ℕ) → Obeys false (asked line (length outbox) command) s outbox outbox r) ⌝ }
 {
-    let Command::New { seed, time } = command else {
+    let Command::New(seed, time) = command else {
         return unheard(s);
     };
     begin(seed, time)
@@ -119,62 +119,46 @@ fn obey_next(s: Session, line: &[u8], command: Command, outbox: &mut [u8]) -> Re
     let e = s.engine;
     match command {
         Command::Unreadable => unheard(s),
-        Command::New { .. } => unheard(s),
+        Command::New(_, _) => unheard(s),
         Command::Lend(_) => unheard(s),
-        Command::NewLink {
-            index,
-            flags,
-            outcome,
-        } => heard(e.new_link(index, flags, outcome, outbox), true),
-        Command::DeletedLink { index, outcome } => heard(e.deleted_link(index, outcome), true),
-        Command::NewAddress { index, address } => {
-            heard(ask::new_address(e, index, address, outbox), true)
-        }
-        Command::DeletedAddress { index, address } => {
-            heard(ask::deleted_address(e, index, address), true)
-        }
+        Command::NewLink(index, flags, outcome) => heard(
+            e.new_link(index, flags, outcome, outbox),
+            true,
+        ),
+        Command::DeletedLink(index, outcome) => heard(e.deleted_link(index, outcome), true),
+        Command::NewAddress(index, address) => heard(
+            ask::new_address(e, index, address, outbox),
+            true,
+        ),
+        Command::DeletedAddress(index, address) => heard(
+            ask::deleted_address(e, index, address),
+            true,
+        ),
         Command::Subscribe(kind) => heard(e.subscribe(part_of(line, kind), outbox), true),
-        Command::Advertise {
-            name,
-            kind,
-            location,
-        } => heard(ask::advertise(e, line, name, kind, location, outbox), true),
+        Command::Advertise(name, kind, location) => heard(
+            ask::advertise(e, line, name, kind, location, outbox),
+            true,
+        ),
         Command::Deadvertise(name) => heard(e.deadvertise(part_of(line, name), outbox), true),
         Command::Refresh => heard(e.refresh(outbox), true),
-        Command::Datagram {
-            time,
-            sender,
-            port,
-            receiver,
-            text,
-        } => heard(
+        Command::Datagram(time, sender, port, receiver, text) => heard(
             ask::on_text(e, time, at(sender, port), receiver, part_of(line, text)),
             true,
         ),
         Command::Timeout(time) => heard(e.handle_timeout(time, outbox), true),
         Command::Reset(time) => heard(e.reset_refresh_timer(time), true),
-        Command::HexDatagram {
-            time,
-            sender,
-            port,
-            receiver,
-            digits,
-        } => heard(
+        Command::HexDatagram(time, sender, port, receiver, digits) => heard(
             ask::on_bytes(e, time, at(sender, port), receiver, part_of(line, digits)),
             true,
         ),
-        Command::NewHexAddress { index, digits } => {
-            heard(
-                ask::new_address_bytes(e, index, part_of(line, digits), outbox),
-                true,
-            )
-        }
-        Command::DeletedHexAddress { index, digits } => {
-            heard(
-                ask::deleted_address_bytes(e, index, part_of(line, digits)),
-                true,
-            )
-        }
+        Command::NewHexAddress(index, digits) => heard(
+            ask::new_address_bytes(e, index, part_of(line, digits), outbox),
+            true,
+        ),
+        Command::DeletedHexAddress(index, digits) => heard(
+            ask::deleted_address_bytes(e, index, part_of(line, digits)),
+            true,
+        ),
     }
 }
 

@@ -17,16 +17,16 @@ ghost use lib.ListN.{length};
 const LENT: usize = 62880;
 
 // What is held between two lines: the session, how many bytes are lent, and whether records are printed.
-pub struct Running {
-    pub session: Session,
-    pub lent: usize,
-    pub traced: bool,
+struct Running {
+    session: Session,
+    lent: usize,
+    traced: bool,
 }
 
 // What is held between two chunks: besides, how much of a line has come.
-pub struct Taken {
-    pub running: Running,
-    pub held: usize,
+struct Taken {
+    running: Running,
+    held: usize,
 }
 
 // Room for the longest line with both bytes of its end.
@@ -41,7 +41,7 @@ fn print(buf: &[u8], len: usize) {
     io::write_all(1, part::front(buf, len));
 }
 
-// The line of a record has at most 1,090 bytes: two digits for each of a message's 512 bytes, and 66 for its head.
+// The line of a record has at most 1,069 bytes: two digits for each of a message's 512 bytes, and 45 for all else.
 fn print_record(outbox: &[u8], k: usize) {
     let mut text = io::buffer();
     let len = record::append_record(&mut text, 0, record::record_at(outbox, k));
@@ -179,7 +179,7 @@ fn on_event(r: Running, line: &[u8], event: Event, outbox: &mut [u8]) -> Turn {
     }
 }
 
-// What a chunk brings. Each turn but the last takes a line off it, so that there are at most as many as bytes, and one.
+// What a chunk brings. Each turn uses up a byte at least: a line with its end, or the rest, which is no whole line.
 fn on_chunk(t: Taken, line: &mut [u8], chunk: &[u8], outbox: &mut [u8]) -> Taken {
     let mut running = t.running;
     let mut held = t.held;

@@ -1,3 +1,4 @@
+-- `print_records` ends: the measure is how many records are left.
 use Prim.Native.Nat.{_≤_, _-_}
 use native.Mathlib.Omega.{arith}
 use borrow.Author.Needs.{needs}

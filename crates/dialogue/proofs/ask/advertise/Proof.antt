@@ -1,33 +1,24 @@
+-- `advertise` meets its contract: the parts of the line are the call's texts.
 use Rattle.dialogue.proofs.Calling.{as-call, same-texts}
 use borrow.Author.Needs.{needs}
 use Rattle.dialogue.proofs.ask.advertise.Statement.{statement}
 use Rattle.dialogue.proofs.ask.advertise.Tie as tie
-use Rattle.dialogue.proofs.ask.advertise.Reads as reads
-use Rattle.dialogue.proofs.ask.advertise.Lts as lts
-use Rattle.console.proofs.part.part_of.Reads as part-of-reads
-use Rattle.engine.proofs.engine.Engine.advertise.Reads as advertise-reads
 
--- src/ask.rt:122:9
 part-of-requires : tie.Need-part-of-requires
 part-of-requires c κs = search needs
 
--- src/ask.rt:123:9
 part-of-requires-2 : tie.Need-part-of-requires-2
 part-of-requires-2 c κs = search needs
 
--- src/ask.rt:124:9
 part-of-requires-3 : tie.Need-part-of-requires-3
 part-of-requires-3 c κs = search needs
 
--- src/ask.rt:121:5
 advertise-requires : tie.Need-advertise-requires
 advertise-requires c κs = search needs
 
--- src/ask.rt:111:1
 same-length : tie.Need-same-length
 same-length c = search needs
 
--- src/ask.rt:111:1
 returns : tie.Need-returns
 returns c =
     as-call (c .before .before .advertise .ensures) (same-texts _ (c .before .before .before .before .before .before .part-of .ensures) (c .before .before .before .before .before .part-of2 .ensures) (c .before .before .before .before .part-of3 .ensures))

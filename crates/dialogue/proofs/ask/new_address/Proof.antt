@@ -1,29 +1,21 @@
+-- `new_address` meets its contract: the call with the address's four bytes.
 use Rattle.dialogue.proofs.Calling.{as-call, same-new}
 use borrow.Author.Needs.{needs}
 use Rattle.dialogue.proofs.ask.new_address.Statement.{statement}
 use Rattle.dialogue.proofs.ask.new_address.Tie as tie
-use Rattle.dialogue.proofs.ask.new_address.Reads as reads
-use Rattle.dialogue.proofs.ask.new_address.Lts as lts
-use Rattle.dialogue.proofs.ask.octets_of.Reads as octets-of-reads
-use Rattle.engine.proofs.engine.Engine.new_address.Reads as new-address-reads
 
--- src/ask.rt:50:18
 octets-of-requires : tie.Need-octets-of-requires
 octets-of-requires c κs = search needs
 
--- src/ask.rt:51:26
 slice-aggregate-new-address : tie.Need-slice-aggregate-new-address
 slice-aggregate-new-address c = search needs
 
--- src/ask.rt:51:5
 new-address-requires : tie.Need-new-address-requires
 new-address-requires c κs = search needs
 
--- src/ask.rt:47:1
 same-length : tie.Need-same-length
 same-length c = search needs
 
--- src/ask.rt:47:1
 returns : tie.Need-returns
 returns c =
     as-call (c .before .before .new-address .ensures) (same-new (c .before .before .before .before .before .octets-of .ensures))

@@ -1,3 +1,4 @@
+-- `append_head` meets its contract: its parts, one behind the other.
 use mathlib.Core.Path.{ap}
 use Rattle.console.proofs.Appending as laws
 use Rattle.console.specs.Decimal.{numberThen}
@@ -7,47 +8,31 @@ use Rattle.dialogue.specs.Printing.{headLine}
 use borrow.Author.Needs.{needs}
 use Rattle.dialogue.proofs.record.append_head.Statement.{statement}
 use Rattle.dialogue.proofs.record.append_head.Tie as tie
-use Rattle.dialogue.proofs.record.append_head.Reads as reads
-use Rattle.dialogue.proofs.record.append_head.Lts as lts
-use Rattle.console.proofs.address.append_address.Reads as append-address-reads
-use Rattle.console.proofs.buffer.append.Reads as append-reads
-use Rattle.console.proofs.decimal.append_number.Reads as append-number-reads
-use Rattle.console.proofs.part.tail.Reads as tail-reads
-use Rattle.dialogue.proofs.record.number_at.Reads as number-at-reads
 
--- src/record.rt:47:41
 slice-aggregate-append : tie.Need-slice-aggregate-append
 slice-aggregate-append c = search needs
 
--- src/record.rt:47:9
 append-requires : tie.Need-append-requires
 append-requires c κs = search needs
 
--- src/record.rt:48:9
 append-address-requires : tie.Need-append-address-requires
 append-address-requires c κs = search needs
 
--- src/record.rt:49:50
 number-at-requires : tie.Need-number-at-requires
 number-at-requires c κs = search needs
 
--- src/record.rt:49:9
 append-number-requires : tie.Need-append-number-requires
 append-number-requires c κs = search needs
 
--- src/record.rt:50:40
 tail-requires : tie.Need-tail-requires
 tail-requires c κs = search needs
 
--- src/record.rt:50:5
 append-address-requires-2 : tie.Need-append-address-requires-2
 append-address-requires-2 c κs = search needs
 
--- src/record.rt:44:1
 same-length : tie.Need-same-length
 same-length c = search needs
 
--- src/record.rt:44:1
 returns : tie.Need-returns
 unfolding headLine bytes
 returns c =

@@ -9,8 +9,6 @@ use Rattle.dialogue.specs.Outbox.{mark}
 use Rattle.dialogue.proofs.Outbox.{marked}
 use Rattle.dialogue.proofs.record.fill.Statement.{statement}
 use Rattle.dialogue.proofs.record.fill.Tie as tie
-use Rattle.dialogue.proofs.record.fill.Reads as reads
-use Rattle.dialogue.proofs.record.fill.Lts as lts
 
 abbrev Inv-loop : tie.InvT-loop
 Inv-loop outbox₀ i₀ outbox i =
@@ -19,33 +17,26 @@ Inv-loop outbox₀ i₀ outbox i =
 abbrev μ-loop : tie.MeasureT-loop
 μ-loop outbox₀ i₀ outbox i = length outbox₀ - i
 
--- src/record.rt:70:5
 loop-holds : tie.Need-loop-holds Inv-loop μ-loop
 loop-holds c = (omega arith, refl, fill-none (c .args .outbox .now) mark)
 
--- src/record.rt:71:9
 slice-write-outbox : tie.Need-slice-write-outbox Inv-loop μ-loop
 slice-write-outbox c = omega arith
 
--- src/record.rt:72:9
 add-i : tie.Need-add-i Inv-loop μ-loop
 add-i c = omega arith
 
--- src/record.rt:70:5
 loop-less : tie.Need-loop-less Inv-loop μ-loop
 loop-less c = omega arith
 
--- src/record.rt:70:5
 loop-again : tie.Need-loop-again Inv-loop μ-loop
 loop-again c =
     let b = c .before .before .args .outbox .now in
     (omega arith, length-set (c .before .loop .outbox) (c .before .loop .i) mark ∙ c .before .loop .inv .1, ap (λ (l : List ℕ). set l (c .before .loop .i) mark) (c .before .loop .inv .2) ∙ fill-more (c .before .loop .i) mark b (omega arith))
 
--- src/record.rt:66:1
 same-length : tie.Need-same-length Inv-loop μ-loop
 same-length c = c .before .loop .inv .1
 
--- src/record.rt:66:1
 returns : tie.Need-returns Inv-loop μ-loop
 returns c =
     let b = c .before .before .args .outbox .now in

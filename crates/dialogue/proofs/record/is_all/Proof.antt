@@ -9,8 +9,6 @@ use Rattle.console.specs.Each.{all}
 use Rattle.console.proofs.InEach.{all-next, all-not, all-end}
 use Rattle.dialogue.proofs.record.is_all.Statement.{statement}
 use Rattle.dialogue.proofs.record.is_all.Tie as tie
-use Rattle.dialogue.proofs.record.is_all.Reads as reads
-use Rattle.dialogue.proofs.record.is_all.Lts as lts
 
 abbrev Inv-loop : tie.InvT-loop
 Inv-loop s byte i₀ i =
@@ -19,37 +17,30 @@ Inv-loop s byte i₀ i =
 abbrev μ-loop : tie.MeasureT-loop
 μ-loop s byte i₀ i = length s - i
 
--- src/record.rt:81:5
 loop-holds : tie.Need-loop-holds Inv-loop μ-loop
 loop-holds c = (omega arith, refl)
 
--- src/record.rt:82:12
 shared-slice-read-if1 : tie.Need-shared-slice-read-if1 Inv-loop μ-loop
 shared-slice-read-if1 c = omega arith
 
--- src/record.rt:83:13
 returns : tie.Need-returns Inv-loop μ-loop
 returns c =
     let h = c .before .before .before in
     let a = h .before .args in
     sym (h .loop .inv .1 ∙ all-not (eqb (a .byte)) (a .s .now) (h .loop .i) (omega arith) (ne-eqb (a .byte) (getD (a .s .now) (h .loop .i) 0) (λ e. c .if1 .taken (sym e))))
 
--- src/record.rt:85:9
 add-i : tie.Need-add-i Inv-loop μ-loop
 add-i c = omega arith
 
--- src/record.rt:81:5
 loop-less : tie.Need-loop-less Inv-loop μ-loop
 loop-less c = omega arith
 
--- src/record.rt:81:5
 loop-again : tie.Need-loop-again Inv-loop μ-loop
 loop-again c =
     let h = c .before .before .before in
     let a = h .before .args in
     (omega arith, h .loop .inv .1 ∙ all-next (eqb (a .byte)) (a .s .now) (h .loop .i) (omega arith) (eq-eqb (a .byte) (getD (a .s .now) (h .loop .i) 0) (sym (c .if1 .left))))
 
--- src/record.rt:77:1
 returns-2 : tie.Need-returns-2 Inv-loop μ-loop
 returns-2 c =
     let h = c .before in

@@ -1,3 +1,4 @@
+-- `is_padded` meets its contract: what follows the message decides.
 use mathlib.Core.Path.{_≡_, sym, _∙_, ap}
 use mathlib.Core.List.{List}
 use Prim.Native.Nat.{ℕ, _+_}
@@ -9,30 +10,20 @@ use Rattle.dialogue.specs.Outbox.{padded}
 use borrow.Author.Needs.{needs}
 use Rattle.dialogue.proofs.record.is_padded.Statement.{statement}
 use Rattle.dialogue.proofs.record.is_padded.Tie as tie
-use Rattle.dialogue.proofs.record.is_padded.Reads as reads
-use Rattle.dialogue.proofs.record.is_padded.Lts as lts
-use Rattle.console.proofs.part.tail.Reads as tail-reads
-use Rattle.dialogue.proofs.record.is_all.Reads as is-all-reads
-use Rattle.dialogue.proofs.record.number_at.Reads as number-at-reads
 
--- src/record.rt:94:9
 number-at-requires : tie.Need-number-at-requires
 number-at-requires c κs = search needs
 
--- src/record.rt:95:26
 add-tail : tie.Need-add-tail
 add-tail c =
     omega arith
 
--- src/record.rt:95:12
 tail-requires : tie.Need-tail-requires
 tail-requires c κs = search needs
 
--- src/record.rt:95:5
 is-all-requires : tie.Need-is-all-requires
 is-all-requires c κs = search needs
 
--- src/record.rt:91:1
 returns : tie.Need-returns
 unfolding padded
 returns c =

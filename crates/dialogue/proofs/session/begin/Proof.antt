@@ -1,3 +1,4 @@
+-- `begin` meets its contract: the engine's `new`, and whether it was accepted.
 use mathlib.Core.Path.{refl, sym, _∙_, ap}
 use lib.Dec.{eqb}
 use Rattle.engine.specs.Held.{held}
@@ -5,20 +6,13 @@ use Rattle.engine.specs.declared.engine.Answer.{Answer}
 use borrow.Author.Needs.{needs}
 use Rattle.dialogue.proofs.session.begin.Statement.{statement}
 use Rattle.dialogue.proofs.session.begin.Tie as tie
-use Rattle.dialogue.proofs.session.begin.Reads as reads
-use Rattle.dialogue.proofs.session.begin.Lts as lts
-use Rattle.dialogue.proofs.session.heard.Reads as heard-reads
-use Rattle.engine.proofs.engine.Engine.new.Reads as new-reads
 
--- src/session.rt:90:9
 new-requires : tie.Need-new-requires
 new-requires c κs = search needs
 
--- src/session.rt:92:5
 heard-requires : tie.Need-heard-requires
 heard-requires c κs = search needs
 
--- src/session.rt:87:1
 returns : tie.Need-returns
 returns c =
     let h = c .heard .ensures in

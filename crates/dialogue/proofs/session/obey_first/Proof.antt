@@ -1,3 +1,4 @@
+-- `obey_first` meets its contract: `new` begins, and no other command is heard.
 use mathlib.Core.Path.{_≡_, refl, subst}
 use mathlib.Core.List.{List, [], _∷_}
 use Prim.Native.Nat.{ℕ}
@@ -12,16 +13,10 @@ use Rattle.dialogue.proofs.Calling.{obeyed, first-unheard}
 use borrow.Author.Needs.{needs}
 use Rattle.dialogue.proofs.session.obey_first.Statement.{statement}
 use Rattle.dialogue.proofs.session.obey_first.Tie as tie
-use Rattle.dialogue.proofs.session.obey_first.Reads as reads
-use Rattle.dialogue.proofs.session.obey_first.Lts as lts
-use Rattle.dialogue.proofs.session.begin.Reads as begin-reads
-use Rattle.dialogue.proofs.session.unheard.Reads as unheard-reads
 
--- src/session.rt:99:24
 enum-known-command : tie.Need-enum-known-command
 enum-known-command c = search needs
 
--- src/session.rt:100:9
 -- the numbers of all commands but `new`
 abbrev others : List ℕ
 others = 0 ∷ 2 ∷ 3 ∷ 4 ∷ 5 ∷ 6 ∷ 7 ∷ 8 ∷ 9 ∷ 10 ∷ 11 ∷ 12 ∷ 13 ∷ 14 ∷ 15 ∷ 16 ∷ []
@@ -29,18 +24,15 @@ others = 0 ∷ 2 ∷ 3 ∷ 4 ∷ 5 ∷ 6 ∷ 7 ∷ 8 ∷ 9 ∷ 10 ∷ 11 ∷ 12 
 unheard-requires : tie.Need-unheard-requires
 unheard-requires c κs = search needs
 
--- src/session.rt:100:9
 returns : tie.Need-returns
 returns c =
     λ line outbox. first-unheard (c .before .before .args .command)
     (λ seed time p. miss others 1 tt (subst (λ (k : Command). OneOf others (tagOf the-type k)) p (c .before .match .keys2)))
     line (length outbox) (record { session = c .unheard .ensures .0; heard = c .unheard .ensures .1; kept = refl })
 
--- src/session.rt:102:5
 begin-requires : tie.Need-begin-requires
 begin-requires c κs = search needs
 
--- src/session.rt:96:1
 returns-2 : tie.Need-returns-2
 unfolding asked
 returns-2 c =

@@ -1,3 +1,4 @@
+-- `obey_next` meets its contract: command by command, the engine's call with what the line says.
 use mathlib.Core.Path.{refl, ap}
 use mathlib.Core.List.{List}
 use Prim.Native.Nat.{ℕ}
@@ -10,396 +11,295 @@ use Rattle.dialogue.proofs.Calling.{as-call, same-datagram, same-new, s
 use borrow.Author.Needs.{needs}
 use Rattle.dialogue.proofs.session.obey_next.Statement.{statement}
 use Rattle.dialogue.proofs.session.obey_next.Tie as tie
-use Rattle.dialogue.proofs.session.obey_next.Reads as reads
-use Rattle.dialogue.proofs.session.obey_next.Lts as lts
-use Rattle.console.proofs.part.part_of.Reads as part-of-reads
-use Rattle.dialogue.proofs.ask.advertise.Reads as advertise-reads
-use Rattle.dialogue.proofs.ask.deleted_address.Reads as deleted-address-reads
-use Rattle.dialogue.proofs.ask.deleted_address_bytes.Reads as deleted-address-bytes-reads
-use Rattle.dialogue.proofs.ask.new_address.Reads as new-address-reads
-use Rattle.dialogue.proofs.ask.new_address_bytes.Reads as new-address-bytes-reads
-use Rattle.dialogue.proofs.ask.on_bytes.Reads as on-bytes-reads
-use Rattle.dialogue.proofs.ask.on_text.Reads as on-text-reads
-use Rattle.dialogue.proofs.session.at.Reads as at-reads
-use Rattle.dialogue.proofs.session.heard.Reads as heard-reads
-use Rattle.dialogue.proofs.session.unheard.Reads as unheard-reads
-use Rattle.engine.proofs.engine.Engine.deadvertise.Reads as deadvertise-reads
-use Rattle.engine.proofs.engine.Engine.deleted_link.Reads as deleted-link-reads
-use Rattle.engine.proofs.engine.Engine.handle_timeout.Reads as handle-timeout-reads
-use Rattle.engine.proofs.engine.Engine.new_link.Reads as new-link-reads
-use Rattle.engine.proofs.engine.Engine.refresh.Reads as refresh-reads
-use Rattle.engine.proofs.engine.Engine.reset_refresh_timer.Reads as reset-refresh-timer-reads
-use Rattle.engine.proofs.engine.Engine.subscribe.Reads as subscribe-reads
 
--- src/session.rt:121:32
 enum-told : tie.Need-enum-told
 enum-told c = search needs
 
--- src/session.rt:121:32
 unheard-requires : tie.Need-unheard-requires
 unheard-requires c κs = search needs
 
--- src/session.rt:122:32
 enum-told-2 : tie.Need-enum-told-2
 enum-told-2 c = search needs
 
--- src/session.rt:122:32
 unheard-requires-2 : tie.Need-unheard-requires-2
 unheard-requires-2 c κs = search needs
 
--- src/session.rt:123:29
 enum-told-3 : tie.Need-enum-told-3
 enum-told-3 c = search needs
 
--- src/session.rt:123:29
 unheard-requires-3 : tie.Need-unheard-requires-3
 unheard-requires-3 c κs = search needs
 
--- src/session.rt:125:13
 enum-known-command : tie.Need-enum-known-command
 enum-known-command c = search needs
 
--- src/session.rt:128:20
 new-link-requires : tie.Need-new-link-requires
 new-link-requires c κs = search needs
 
--- src/session.rt:128:14
 heard-requires : tie.Need-heard-requires
 heard-requires c κs = search needs
 
--- src/session.rt:129:32
 enum-known-command-2 : tie.Need-enum-known-command-2
 enum-known-command-2 c = search needs
 
--- src/session.rt:129:58
 deleted-link-requires : tie.Need-deleted-link-requires
 deleted-link-requires c κs = search needs
 
--- src/session.rt:129:52
 heard-requires-2 : tie.Need-heard-requires-2
 heard-requires-2 c κs = search needs
 
--- src/session.rt:130:31
 enum-known-command-3 : tie.Need-enum-known-command-3
 enum-known-command-3 c = search needs
 
--- src/session.rt:131:19
 new-address-requires : tie.Need-new-address-requires
 new-address-requires c κs = search needs
 
--- src/session.rt:131:13
 heard-requires-3 : tie.Need-heard-requires-3
 heard-requires-3 c κs = search needs
 
--- src/session.rt:133:35
 enum-known-command-4 : tie.Need-enum-known-command-4
 enum-known-command-4 c = search needs
 
--- src/session.rt:134:19
 deleted-address-requires : tie.Need-deleted-address-requires
 deleted-address-requires c κs = search needs
 
--- src/session.rt:134:13
 heard-requires-4 : tie.Need-heard-requires-4
 heard-requires-4 c κs = search needs
 
--- src/session.rt:136:28
 enum-known-command-5 : tie.Need-enum-known-command-5
 enum-known-command-5 c = search needs
 
--- src/session.rt:136:55
 part-of-requires : tie.Need-part-of-requires
 part-of-requires c κs = search needs
 
--- src/session.rt:136:43
 subscribe-requires : tie.Need-subscribe-requires
 subscribe-requires c κs = search needs
 
--- src/session.rt:136:37
 heard-requires-5 : tie.Need-heard-requires-5
 heard-requires-5 c κs = search needs
 
--- src/session.rt:138:13
 enum-known-command-6 : tie.Need-enum-known-command-6
 enum-known-command-6 c = search needs
 
--- src/session.rt:141:20
 advertise-requires : tie.Need-advertise-requires
 advertise-requires c κs = search needs
 
--- src/session.rt:141:14
 heard-requires-6 : tie.Need-heard-requires-6
 heard-requires-6 c κs = search needs
 
--- src/session.rt:142:30
 enum-known-command-7 : tie.Need-enum-known-command-7
 enum-known-command-7 c = search needs
 
--- src/session.rt:142:59
 part-of-requires-2 : tie.Need-part-of-requires-2
 part-of-requires-2 c κs = search needs
 
--- src/session.rt:142:45
 deadvertise-requires : tie.Need-deadvertise-requires
 deadvertise-requires c κs = search needs
 
--- src/session.rt:142:39
 heard-requires-7 : tie.Need-heard-requires-7
 heard-requires-7 c κs = search needs
 
--- src/session.rt:143:45
 enum-told-4 : tie.Need-enum-told-4
 enum-told-4 c = search needs
 
--- src/session.rt:143:35
 refresh-requires : tie.Need-refresh-requires
 refresh-requires c κs = search needs
 
--- src/session.rt:143:29
 heard-requires-8 : tie.Need-heard-requires-8
 heard-requires-8 c κs = search needs
 
--- src/session.rt:145:13
 enum-known-command-8 : tie.Need-enum-known-command-8
 enum-known-command-8 c = search needs
 
--- src/session.rt:151:35
 at-requires : tie.Need-at-requires
 at-requires c κs = search needs
 
--- src/session.rt:151:63
 part-of-requires-3 : tie.Need-part-of-requires-3
 part-of-requires-3 c κs = search needs
 
--- src/session.rt:151:13
 on-text-requires : tie.Need-on-text-requires
 on-text-requires c κs = search needs
 
--- src/session.rt:150:14
 heard-requires-9 : tie.Need-heard-requires-9
 heard-requires-9 c κs = search needs
 
--- src/session.rt:154:26
 enum-known-command-9 : tie.Need-enum-known-command-9
 enum-known-command-9 c = search needs
 
--- src/session.rt:154:41
 handle-timeout-requires : tie.Need-handle-timeout-requires
 handle-timeout-requires c κs = search needs
 
--- src/session.rt:154:35
 heard-requires-10 : tie.Need-heard-requires-10
 heard-requires-10 c κs = search needs
 
--- src/session.rt:155:24
 enum-known-command-10 : tie.Need-enum-known-command-10
 enum-known-command-10 c = search needs
 
--- src/session.rt:155:39
 reset-refresh-timer-requires : tie.Need-reset-refresh-timer-requires
 reset-refresh-timer-requires c κs = search needs
 
--- src/session.rt:155:33
 heard-requires-11 : tie.Need-heard-requires-11
 heard-requires-11 c κs = search needs
 
--- src/session.rt:157:13
 enum-known-command-11 : tie.Need-enum-known-command-11
 enum-known-command-11 c = search needs
 
--- src/session.rt:163:36
 at-requires-2 : tie.Need-at-requires-2
 at-requires-2 c κs = search needs
 
--- src/session.rt:163:64
 part-of-requires-4 : tie.Need-part-of-requires-4
 part-of-requires-4 c κs = search needs
 
--- src/session.rt:163:13
 on-bytes-requires : tie.Need-on-bytes-requires
 on-bytes-requires c κs = search needs
 
--- src/session.rt:162:14
 heard-requires-12 : tie.Need-heard-requires-12
 heard-requires-12 c κs = search needs
 
--- src/session.rt:166:34
 enum-known-command-12 : tie.Need-enum-known-command-12
 enum-known-command-12 c = search needs
 
--- src/session.rt:168:50
 part-of-requires-5 : tie.Need-part-of-requires-5
 part-of-requires-5 c κs = search needs
 
--- src/session.rt:168:17
 new-address-bytes-requires : tie.Need-new-address-bytes-requires
 new-address-bytes-requires c κs = search needs
 
--- src/session.rt:167:13
 heard-requires-13 : tie.Need-heard-requires-13
 heard-requires-13 c κs = search needs
 
--- src/session.rt:172:38
 enum-known-command-13 : tie.Need-enum-known-command-13
 enum-known-command-13 c = search needs
 
--- src/session.rt:174:54
 part-of-requires-6 : tie.Need-part-of-requires-6
 part-of-requires-6 c κs = search needs
 
--- src/session.rt:174:17
 deleted-address-bytes-requires : tie.Need-deleted-address-bytes-requires
 deleted-address-bytes-requires c κs = search needs
 
--- src/session.rt:173:13
 heard-requires-14 : tie.Need-heard-requires-14
 heard-requires-14 c κs = search needs
 
--- src/session.rt:116:1
 returns : tie.Need-returns
 unfolding asked
 returns c =
     let a = c .before .before .before .before .before .before .args in
     obeyed (a .line .now) (length (a .outbox .now)) (c .before .enum-told .given .1) refl (record { session = c .unheard .ensures .0; heard = c .unheard .ensures .1; kept = refl })
 
--- src/session.rt:116:1
 returns-2 : tie.Need-returns-2
 unfolding asked
 returns-2 c =
     let a = c .before .before .before .before .before .before .args in
     obeyed (a .line .now) (length (a .outbox .now)) (c .before .enum-told2 .given .1) refl (record { session = c .unheard2 .ensures .0; heard = c .unheard2 .ensures .1; kept = refl })
 
--- src/session.rt:116:1
 returns-3 : tie.Need-returns-3
 unfolding asked
 returns-3 c =
     let a = c .before .before .before .before .before .before .args in
     obeyed (a .line .now) (length (a .outbox .now)) (c .before .enum-told3 .given .1) refl (record { session = c .unheard3 .ensures .0; heard = c .unheard3 .ensures .1; kept = refl })
 
--- src/session.rt:116:1
 same-length : tie.Need-same-length
 same-length c = search needs
 
--- src/session.rt:116:1
 returns-4 : tie.Need-returns-4
 unfolding asked
 returns-4 c =
     let a = c .before .before .before .before .before .before .before .before .before .before .before .args in
     obeyed (a .line .now) (length (a .outbox .now)) (c .before .before .before .before .before .before .command .given .1) refl (called (c .before .before .before .new-link .ensures) (c .heard .ensures))
 
--- src/session.rt:116:1
 returns-5 : tie.Need-returns-5
 unfolding asked
 returns-5 c =
     let a = c .before .before .before .before .before .before .before .before .args in
     obeyed (a .line .now) (length (a .outbox .now)) (c .before .before .before .command2 .given .1) refl (called (lent-none (a .outbox .now) (c .before .deleted-link .ensures)) (c .heard2 .ensures))
 
--- src/session.rt:116:1
 same-length-2 : tie.Need-same-length-2
 same-length-2 c = search needs
 
--- src/session.rt:116:1
 returns-6 : tie.Need-returns-6
 unfolding asked
 returns-6 c =
     let a = c .before .before .before .before .before .before .before .before .before .before .before .args in
     obeyed (a .line .now) (length (a .outbox .now)) (c .before .before .before .before .before .before .command3 .given .1) refl (called (c .before .before .before .new-address .ensures) (c .heard3 .ensures))
 
--- src/session.rt:116:1
 returns-7 : tie.Need-returns-7
 unfolding asked
 returns-7 c =
     let a = c .before .before .before .before .before .before .before .before .args in
     obeyed (a .line .now) (length (a .outbox .now)) (c .before .before .before .command4 .given .1) refl (called (lent-none (a .outbox .now) (c .before .deleted-address .ensures)) (c .heard4 .ensures))
 
--- src/session.rt:116:1
 same-length-3 : tie.Need-same-length-3
 same-length-3 c = search needs
 
--- src/session.rt:116:1
 returns-8 : tie.Need-returns-8
 unfolding asked
 returns-8 c =
     let a = c .before .before .before .before .before .before .before .before .before .before .before .before .args in
     obeyed (a .line .now) (length (a .outbox .now)) (c .before .before .before .before .before .before .before .command5 .given .1) refl (called (as-call (c .before .before .before .subscribe .ensures) (ap (λ (x : List ℕ). Subscribe x (length (a .outbox .now))) (c .before .before .before .before .before .part-of .ensures))) (c .heard5 .ensures))
 
--- src/session.rt:116:1
 same-length-4 : tie.Need-same-length-4
 same-length-4 c = search needs
 
--- src/session.rt:116:1
 returns-9 : tie.Need-returns-9
 unfolding asked
 returns-9 c =
     let a = c .before .before .before .before .before .before .before .before .before .before .before .args in
     obeyed (a .line .now) (length (a .outbox .now)) (c .before .before .before .before .before .before .command6 .given .1) refl (called (c .before .before .before .advertise .ensures) (c .heard6 .ensures))
 
--- src/session.rt:116:1
 same-length-5 : tie.Need-same-length-5
 same-length-5 c = search needs
 
--- src/session.rt:116:1
 returns-10 : tie.Need-returns-10
 unfolding asked
 returns-10 c =
     let a = c .before .before .before .before .before .before .before .before .before .before .before .before .args in
     obeyed (a .line .now) (length (a .outbox .now)) (c .before .before .before .before .before .before .before .command7 .given .1) refl (called (as-call (c .before .before .before .deadvertise .ensures) (ap (λ (x : List ℕ). Deadvertise x (length (a .outbox .now))) (c .before .before .before .before .before .part-of2 .ensures))) (c .heard7 .ensures))
 
--- src/session.rt:116:1
 same-length-6 : tie.Need-same-length-6
 same-length-6 c = search needs
 
--- src/session.rt:116:1
 returns-11 : tie.Need-returns-11
 unfolding asked
 returns-11 c =
     let a = c .before .before .before .before .before .before .before .before .before .before .args in
     obeyed (a .line .now) (length (a .outbox .now)) (c .before .before .before .before .before .enum-told4 .given .1) refl (called (c .before .before .before .refresh .ensures) (c .heard8 .ensures))
 
--- src/session.rt:116:1
 returns-12 : tie.Need-returns-12
 unfolding asked
 returns-12 c =
     let a = c .before .before .before .before .before .before .before .before .before .before .args in
     obeyed (a .line .now) (length (a .outbox .now)) (c .before .before .before .before .before .command8 .given .1) refl (called (lent-none (a .outbox .now) (as-call (c .before .on-text .ensures) (same-datagram (c .before .before .before .at .ensures) (ap (λ (x : List ℕ). take datagramMax (datagram x)) (c .before .before .part-of3 .ensures))))) (c .heard9 .ensures))
 
--- src/session.rt:116:1
 same-length-7 : tie.Need-same-length-7
 same-length-7 c = search needs
 
--- src/session.rt:116:1
 returns-13 : tie.Need-returns-13
 unfolding asked
 returns-13 c =
     let a = c .before .before .before .before .before .before .before .before .before .before .before .args in
     obeyed (a .line .now) (length (a .outbox .now)) (c .before .before .before .before .before .before .command9 .given .1) refl (called (c .before .before .before .handle-timeout .ensures) (c .heard10 .ensures))
 
--- src/session.rt:116:1
 returns-14 : tie.Need-returns-14
 unfolding asked
 returns-14 c =
     let a = c .before .before .before .before .before .before .before .before .args in
     obeyed (a .line .now) (length (a .outbox .now)) (c .before .before .before .command10 .given .1) refl (called (lent-none (a .outbox .now) (c .before .reset-refresh-timer .ensures)) (c .heard11 .ensures))
 
--- src/session.rt:116:1
 returns-15 : tie.Need-returns-15
 unfolding asked
 returns-15 c =
     let a = c .before .before .before .before .before .before .before .before .before .before .args in
     obeyed (a .line .now) (length (a .outbox .now)) (c .before .before .before .before .before .command11 .given .1) refl (called (lent-none (a .outbox .now) (as-call (c .before .on-bytes .ensures) (same-datagram (c .before .before .before .at2 .ensures) (ap (λ (x : List ℕ). take datagramMax (unhexed x)) (c .before .before .part-of4 .ensures))))) (c .heard12 .ensures))
 
--- src/session.rt:116:1
 same-length-8 : tie.Need-same-length-8
 same-length-8 c = search needs
 
--- src/session.rt:116:1
 returns-16 : tie.Need-returns-16
 unfolding asked
 returns-16 c =
     let a = c .before .before .before .before .before .before .before .before .before .before .before .before .args in
     obeyed (a .line .now) (length (a .outbox .now)) (c .before .before .before .before .before .before .before .command12 .given .1) refl (called (as-call (c .before .before .before .new-address-bytes .ensures) (same-new (ap (λ (x : List ℕ). take addressMax (unhexed x)) (c .before .before .before .before .before .part-of5 .ensures)))) (c .heard13 .ensures))
 
--- src/session.rt:116:1
 returns-17 : tie.Need-returns-17
 unfolding asked
 returns-17 c =

@@ -1,6 +1,6 @@
 -- Laws of comparing: two texts agree, or are in order, as far as their bytes from place i on are.
-use mathlib.Core.Path.{_≡_, refl, _∙_, ap}
-use mathlib.Core.Bool.{true, false, _&&_, and-false, and-eq-true-iff, false≢true}
+use mathlib.Core.Path.{_≡_, refl, sym, _∙_, ap}
+use mathlib.Core.Bool.{Bool, true, false, _&&_, and-assoc, and-true, and-false, and-eq-true-iff, false≢true}
 use mathlib.Core.List.{List, [], _∷_}
 use Prim.Native.Nat.{ℕ, suc, _+_, _-_, _≤_, _<_}
 use native.Mathlib.Omega.{arith}
@@ -38,6 +38,14 @@ module _ (f : ℕ → ℕ) (s t : List ℕ) (i : ℕ) where
   pub agree-end : length s ≤ i → length t ≤ i → agree f (drop i s) (drop i t) ≡ true
   unfolding agree
   agree-end h g = rw (drop-of-length-le s h, drop-of-length-le t g)
+
+  -- the same, after what is found so far
+  pub agree-turn : (b : Bool) → i < length s → i < length t → (b && agree f (drop i s) (drop i t)) ≡ (b && eqb (f (getD s i 0)) (getD t i 0) && agree f (drop (i + 1) s) (drop (i + 1) t))
+  unfolding agree
+  agree-turn b h g = rw (add-one, drop-cons s i 0, drop-cons t i 0) (sym (and-assoc b (eqb (f (getD s i 0)) (getD t i 0)) (agree f (drop (suc i) s) (drop (suc i) t))))
+
+  pub agree-found : (b : Bool) → length s ≤ i → length t ≤ i → (b && agree f (drop i s) (drop i t)) ≡ b
+  agree-found b h g = ap (_&&_ b) (agree-end h g) ∙ and-true b
 
 pub agree-lengths : (f : ℕ → ℕ) (s t : List ℕ) → (length s ≡ length t → ⊥) → agree f s t ≡ false
 unfolding agree

@@ -24,21 +24,21 @@ pub fn upper_of(a: u8) -> u8
     a - 32
 }
 
-// Whether two texts are the same.
+// Whether two texts are the same. The loop has no way out before the end, so that it runs over many
+// bytes at a time.
 pub fn equal(s: &[u8], t: &[u8]) -> bool
     ensures { λ r. ⌜ r ≡ equal (now (s .entry)) (now (t .entry)) ⌝ }
 {
     if s.len() != t.len() {
         return false;
     }
+    let mut same = true;
     let mut i = 0;
     while i < s.len() {
-        if s[i] != t[i] {
-            return false;
-        }
+        same = same & (s[i] == t[i]);
         i += 1;
     }
-    true
+    same
 }
 
 // Whether `s`, its ASCII letters in upper case, is `t`.

@@ -1,5 +1,6 @@
--- `bytes::equal`: as long as the bytes before i agree, the texts agree if what follows does. The measure is what is left of the length.
+-- `bytes::equal`: what was found before i, and the bytes from i on. The measure is what is left of the length.
 use mathlib.Core.Path.{_≡_, refl, sym, _∙_}
+use mathlib.Core.Bool.{_&&_}
 use lib.ListN.{length, drop}
 use Prim.Native.Nat.{_-_, _≤_}
 use native.Mathlib.Omega.{arith}
@@ -9,10 +10,10 @@ use Rattle.text.proofs.bytes.equal.Statement.{statement}
 use Rattle.text.proofs.bytes.equal.Tie as tie
 
 abbrev Inv-loop : tie.InvT-loop
-Inv-loop s t i₀ i = (i ≤ length s) × (length s ≡ length t) × (agree same s t ≡ agree same (drop i s) (drop i t))
+Inv-loop s t same₀ i₀ found i = (i ≤ length s) × (length s ≡ length t) × ((found && agree same (drop i s) (drop i t)) ≡ agree same s t)
 
 abbrev μ-loop : tie.MeasureT-loop
-μ-loop s t i₀ i = length s - i
+μ-loop s t same₀ i₀ found i = length s - i
 
 returns : tie.Need-returns Inv-loop μ-loop
 returns c = sym (laws.agree-lengths same (c .before .args .s .now) (c .before .args .t .now) (c .if1 .taken))
@@ -20,17 +21,11 @@ returns c = sym (laws.agree-lengths same (c .before .args .s .now) (c .before .a
 loop-holds : tie.Need-loop-holds Inv-loop μ-loop
 loop-holds c = (omega arith, omega arith, refl)
 
-shared-slice-read-if2 : tie.Need-shared-slice-read-if2 Inv-loop μ-loop
-shared-slice-read-if2 c = omega arith
+shared-slice-read-same : tie.Need-shared-slice-read-same Inv-loop μ-loop
+shared-slice-read-same c = omega arith
 
-shared-slice-read-if2-2 : tie.Need-shared-slice-read-if2-2 Inv-loop μ-loop
-shared-slice-read-if2-2 c = omega arith
-
-returns-2 : tie.Need-returns-2 Inv-loop μ-loop
-returns-2 c =
-    let l = c .before .before .before .before .loop in
-    let a = c .before .before .before .before .before .before .args in
-    sym (l .inv .2 ∙ laws.agree-not same (a .s .now) (a .t .now) (l .i) (omega arith) (omega arith) (c .if2 .taken))
+shared-slice-read-same-2 : tie.Need-shared-slice-read-same-2 Inv-loop μ-loop
+shared-slice-read-same-2 c = omega arith
 
 add-i : tie.Need-add-i Inv-loop μ-loop
 add-i c = omega arith
@@ -40,15 +35,15 @@ loop-less c = omega arith
 
 loop-again : tie.Need-loop-again Inv-loop μ-loop
 loop-again c =
-    let l = c .before .before .before .before .loop in
-    let a = c .before .before .before .before .before .before .args in
-    (omega arith, omega arith, l .inv .2 ∙ laws.agree-next same (a .s .now) (a .t .now) (l .i) (omega arith) (omega arith) (c .if2 .left))
+    let l = c .before .before .before .loop in
+    let a = c .before .before .before .before .before .args in
+    (omega arith, omega arith, sym (laws.agree-turn same (a .s .now) (a .t .now) (l .i) (l .same) (omega arith) (omega arith)) ∙ l .inv .2)
 
-returns-3 : tie.Need-returns-3 Inv-loop μ-loop
-returns-3 c =
+returns-2 : tie.Need-returns-2 Inv-loop μ-loop
+returns-2 c =
     let l = c .before .loop in
     let a = c .before .before .before .args in
-    sym (l .inv .2 ∙ laws.agree-end same (a .s .now) (a .t .now) (l .i) (omega arith) (omega arith))
+    sym (laws.agree-found same (a .s .now) (a .t .now) (l .i) (l .same) (omega arith) (omega arith)) ∙ l .inv .2
 
 pub equal-spec : {M : Type 1} → statement M
 equal-spec =
@@ -58,10 +53,9 @@ equal-spec =
     μ-loop
     returns
     loop-holds
-    shared-slice-read-if2
-    shared-slice-read-if2-2
-    returns-2
+    shared-slice-read-same
+    shared-slice-read-same-2
     add-i
     loop-less
     loop-again
-    returns-3)
+    returns-2)

@@ -47,7 +47,7 @@ module _ (s t : List ℕ) where
       rw (n, m, eq-parts, eb, ew, eo, rest-from s (i + 1), rest-from t (j + 1), e, d)
 
 -- a type matches itself, and every type `ssdp:all`
-or-second : (a c : Bool) → (a || true || c) ≡ true
+pub or-second : (a c : Bool) → (a || true || c) ≡ true
 or-second true c = refl
 or-second false c = refl
 

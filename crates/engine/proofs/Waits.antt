@@ -1,6 +1,6 @@
 -- What a search and a handle_timeout make of one advertisement, case by case of its waiting reply, and what each counts.
-use mathlib.Core.Path.{_≡_, refl, _∙_, ap}
-use mathlib.Core.Bool.{Bool, true, false}
+use mathlib.Core.Path.{_≡_, refl, sym, _∙_, ap}
+use mathlib.Core.Bool.{Bool, true, false, false≢true}
 use mathlib.Core.List.{List, [], _∷_, map}
 use Prim.Native.Nat.{ℕ, _+_, _≤_}
 use native.Mathlib.Nat.{add-zero}
@@ -8,7 +8,7 @@ use native.Mathlib.Omega.{arith}
 use Rattle.engine.specs.Held.{Text, Advertisement, advertisementOf}
 use Rattle.engine.specs.Calls.{Query}
 use Rattle.engine.specs.Records.{isDue}
-use Rattle.engine.specs.Replies.{sumOf, waits, waiting, result, sameSender, askedNeed, askedAnswer, answerType, hits, asked, matchedBy, joinedBy, servedNeed, served, isAlone, isGroup, aloneAt, groupAt}
+use Rattle.engine.specs.Replies.{sumOf, isNone, waits, waiting, result, sameSender, askedNeed, askedAnswer, answerType, hits, asked, matchedBy, joinedBy, servedNeed, served, isAlone, isGroup, aloneAt, groupAt}
 use Rattle.engine.specs.Passes.{One, All, askedBy, withNeed, withAnswer}
 use Rattle.engine.specs.Asking.{Asking}
 use Rattle.engine.specs.Delay.{delay}
@@ -28,20 +28,29 @@ module _ (due : ℕ) (q : Query) (a : Advertisement) where
   pub missed : hits q a ≡ false → a ≡ asked due q a
   missed f = with-both (rw f) (rw f)
 
-  -- no reply waits: one opens
-  pub opened : hits q a ≡ true → a .needed ≡ None → withNeed (Unicast due (q .sender) (q .receiver)) (withAnswer (answerType (q .target) (a .kind)) a) ≡ asked due q a
-  opened f n = with-both (rw (f, n)) (rw (f, n))
+  -- a search that asks for it: the reply depends on the sender and the receiver alone, and the answer type changes where one opens
+  need-parts : (n : ResponseNeeded) → askedNeed true due (askedBy [] (q .sender) (q .receiver)) n ≡ askedNeed true due q n
+  need-parts None = refl
+  need-parts (Multicast d) = refl
+  need-parts (Unicast d s r) = refl
 
-  -- one to the group waits
-  pub grouped : {d : ℕ} → hits q a ≡ true → a .needed ≡ Multicast d → a ≡ asked due q a
-  grouped f n = with-both (rw (f, n)) (rw (f, n))
+  answer-opened : (n : ResponseNeeded) (kind answer : Text) → isNone n ≡ true → answerType (q .target) kind ≡ askedAnswer true q kind n answer
+  answer-opened None kind answer e = refl
+  answer-opened (Multicast d) kind answer e = absurd (false≢true e)
+  answer-opened (Unicast d s r) kind answer e = absurd (false≢true e)
 
-  -- one to a lone searcher waits: this one, or another
-  pub repeated : {d : ℕ} {s : Endpoint} {r : ℕ} → hits q a ≡ true → a .needed ≡ Unicast d s r → sameSender s (q .sender) ≡ true → a ≡ asked due q a
-  repeated f n e = with-both (rw (f, n, e)) (rw (f, n))
+  answer-kept : (n : ResponseNeeded) (kind answer : Text) → isNone n ≡ false → answer ≡ askedAnswer true q kind n answer
+  answer-kept None kind answer e = absurd (false≢true (sym e))
+  answer-kept (Multicast d) kind answer e = refl
+  answer-kept (Unicast d s r) kind answer e = refl
 
-  pub shared : {d : ℕ} {s : Endpoint} {r : ℕ} → hits q a ≡ true → a .needed ≡ Unicast d s r → sameSender s (q .sender) ≡ false → withNeed (Multicast d) a ≡ asked due q a
-  shared f n e = with-both (rw (f, n, e)) (rw (f, n))
+  pub opened : {n : ResponseNeeded} → hits q a ≡ true → isNone (a .needed) ≡ true → n ≡ askedNeed true due (askedBy [] (q .sender) (q .receiver)) (a .needed)
+      → withNeed n (withAnswer (answerType (q .target) (a .kind)) a) ≡ asked due q a
+  opened f o p = with-both (rw f (p ∙ need-parts (a .needed))) (rw f (answer-opened (a .needed) (a .kind) (a .answer) o))
+
+  pub joined : {n : ResponseNeeded} → hits q a ≡ true → isNone (a .needed) ≡ false → n ≡ askedNeed true due (askedBy [] (q .sender) (q .receiver)) (a .needed)
+      → withNeed n a ≡ asked due q a
+  joined f o p = with-both (rw f (p ∙ need-parts (a .needed))) (rw f (answer-kept (a .needed) (a .kind) (a .answer) o))
 
   pub ask-missed : {b : ActiveAdvertisement} → hits q a ≡ false → advertisementOf b ≡ a → One (asked due q) (matchedBy q) (joinedBy q) a b 0 0
   unfolding matchedBy joinedBy
@@ -51,6 +60,14 @@ module _ (due : ℕ) (q : Query) (a : Advertisement) where
       → One (asked due q) (matchedBy q) (joinedBy q) a b 1 w
   unfolding matchedBy joinedBy
   ask-matched f e w = record { entry = e; first = (rw f, omega arith); second = (rw f (w .0), w .1) }
+
+-- the reply after a search that asks for it, by the reply that waits
+module _ (due : ℕ) (q : Query) {n : ResponseNeeded} where
+  pub repeated : {d : ℕ} {s : Endpoint} {r : ℕ} → n ≡ Unicast d s r → sameSender s (q .sender) ≡ true → Unicast d s r ≡ askedNeed true due q n
+  repeated p e = rw (p, e)
+
+  pub shared : {d : ℕ} {s : Endpoint} {r : ℕ} → n ≡ Unicast d s r → sameSender s (q .sender) ≡ false → Multicast d ≡ askedNeed true due q n
+  shared p e = rw (p, e)
 
 -- ---- handle_timeout
 module _ (time : ℕ) (a : Advertisement) where

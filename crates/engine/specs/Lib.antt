@@ -23,6 +23,7 @@ pub mod Asking
 pub mod Reading
 pub mod Refusals
 pub mod Engine
+pub mod TimedOut
 pub mod Tallies
 pub mod Telling
 pub mod Ledger

@@ -57,6 +57,11 @@ askedNeed true due q None = Unicast due (q .sender) (q .receiver)
 askedNeed true due q (Multicast d) = Multicast d
 askedNeed true due q (Unicast d sender receiver) = shared (sameSender sender (q .sender)) d sender receiver
 
+abbrev pub isNone : ResponseNeeded → Bool
+isNone None = true
+isNone (Multicast due) = false
+isNone (Unicast due sender receiver) = false
+
 -- the answer type: the target, or the advertised type for `ssdp:all`
 abbrev pub answerType : Text → Text → Text
 answerType target kind = cond (equal target ssdpAll) kind target

@@ -25,6 +25,7 @@ use crate::source;
 use crate::subscription;
 use crate::subscription::ActiveSearches;
 use crate::subscription::Subscribers;
+use crate::timeout::timeout_sent;
 use text::white::Place;
 ghost use mathlib.Core.Path.{_≡_};
 ghost use mathlib.Core.Bool.{cond};
@@ -78,19 +79,19 @@ pub struct Answered {
 }
 
 // What an accepted call counts, and whom it tells.
-struct Tally {
-    matched: usize,
-    joined: usize,
-    alone: usize,
-    group: usize,
-    dropped: usize,
-    mask: u32,
-    told: u32,
-    leave: u32,
+pub struct Tally {
+    pub matched: usize,
+    pub joined: usize,
+    pub alone: usize,
+    pub group: usize,
+    pub dropped: usize,
+    pub mask: u32,
+    pub told: u32,
+    pub leave: u32,
 }
 
 // A call that counts nothing and tells nobody.
-fn nothing() -> Tally
+pub fn nothing() -> Tally
     ensures { λ r. ⌜ (counted r ≡ zeros) × (toldBy r ≡ tellsNobody) ⌝ }
 {
     Tally {
@@ -189,7 +190,7 @@ fn dropping(dropped: usize) -> Tally
 }
 
 // Replies were sent, alone and to the group.
-fn sending(alone: usize, group: usize) -> Tally
+pub fn sending(alone: usize, group: usize) -> Tally
     ensures { λ r. ⌜ (counted r ≡ sends alone group) × (toldBy r ≡ tellsNobody) ⌝ }
 {
     Tally {
@@ -205,7 +206,7 @@ fn sending(alone: usize, group: usize) -> Tally
 }
 
 // A search matched, and joined replies that wait.
-fn asking(matched: usize, joined: usize) -> Tally
+pub fn asking(matched: usize, joined: usize) -> Tally
     ensures { λ r. ⌜ (counted r ≡ asks matched joined) × (toldBy r ≡ tellsNobody) ⌝ }
 {
     Tally {
@@ -221,7 +222,7 @@ fn asking(matched: usize, joined: usize) -> Tally
 }
 
 // Subscriptions are told.
-fn telling(s: Subscribers) -> Tally
+pub fn telling(s: Subscribers) -> Tally
     ensures { λ r. ⌜ (counted r ≡ zeros) × (toldBy r ≡ tellsMask (s .mask) (s .told)) ⌝ }
 {
     Tally {
@@ -442,32 +443,26 @@ impl Engine {
     pub fn handle_timeout(self, time: u64, outbox: &mut [u8]) -> Answered
         ensures { λ r. ⌜ Answers self (Timeout time (length (now (outbox .entry)))) (now (outbox .entry)) (now (outbox .exit)) r ⌝ }
     {
-        let number = refusals::of_timeout(time, outbox.len());
-        if number != 0 {
-            return refused(self, number);
-        }
         let table = self.advertisements;
         let timer = self.refresh_timer;
-        let searches = self.active_searches;
-        let up = source::of_up_links(self.interfaces);
-        let from = up.addresses;
-        let k = send::send_timeout(
-            outbox,
-            from,
-            up.count,
-            timer.next_salvo <= time,
-            time,
-            searches,
+        let sent = timeout_sent(
+            timer,
+            self.interfaces,
+            self.active_searches,
             table,
+            time,
+            outbox,
         );
+        if sent.refusal != 0 {
+            return refused(self, sent.refusal);
+        }
         let served = serve_all(table, time);
-        let rolled = timer.updated(time);
         let next_table = served.table;
-        let next_timer = rolled.timer;
+        let next_timer = sent.timer;
         let mut e = self;
         e.advertisements = next_table;
         e.refresh_timer = next_timer;
-        accepted(e, k, sending(served.alone, served.group))
+        accepted(e, sent.records, sending(served.alone, served.group))
     }
 
     // A link is there, or is up or down. The host has tried to join the group on a new one and hands in the outcome.

@@ -11,7 +11,7 @@ pub(crate) fn front(text: &[u8], len: usize) -> &[u8]
 }
 
 // The same of an array for a type, a location and a name. That a callee takes an array asks no proof of its length.
-pub(crate) fn front80(text: &[u8; 80], len: usize) -> &[u8]
+pub fn front80(text: &[u8; 80], len: usize) -> &[u8]
     ensures { λ r. ⌜ now r ≡ take len (now (text .entry)) ⌝ }
 {
     front(text, len)
@@ -30,7 +30,7 @@ pub(crate) fn front128(text: &[u8; 128], len: usize) -> &[u8]
 }
 
 // An array with a text in front, cut to the array's size.
-pub(crate) fn text80(text: &[u8]) -> [u8; 80]
+pub fn text80(text: &[u8]) -> [u8; 80]
     ensures { λ r. ⌜ take (length (now (text .entry))) r ≡ take 80 (now (text .entry)) ⌝ }
 {
     let mut a = [0u8; 80];

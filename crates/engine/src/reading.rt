@@ -17,7 +17,7 @@ pub enum Reading {
     Unreadable,
 }
 
-pub(crate) fn reading_of(said: Message) -> Reading
+pub fn reading_of(said: Message) -> Reading
     ensures { λ r. ⌜ r ≡ readingOf said ⌝ }
 {
     match said {
@@ -45,7 +45,7 @@ pub(crate) fn reading_of(said: Message) -> Reading
 }
 
 // The refusal number of what cannot be read.
-pub(crate) fn number_of(said: Message) -> u32
+pub fn number_of(said: Message) -> u32
     ensures { λ r. ⌜ r ≡ parseRefusal said ⌝ }
 {
     match said {

@@ -12,6 +12,7 @@ use crate::subscription::is_all;
 use crate::target::target_match;
 ghost use mathlib.Core.Path.{_≡_};
 ghost use mathlib.Core.Bool.{true};
+ghost use mathlib.Core.List.{[]};
 ghost use Prim.Native.Nat.{_≤_, min};
 ghost use lib.ListN.{length, take};
 ghost use Rattle.message.specs.Build.{typeMax};
@@ -20,12 +21,12 @@ ghost use Rattle.engine.specs.Sizes.{timeMax};
 ghost use Rattle.engine.specs.Table.{entryOf};
 ghost use Rattle.engine.specs.Held.{advertisementOf, advertisementsOf, advertised};
 ghost use Rattle.engine.specs.Records.{isDue};
-ghost use Rattle.engine.specs.Replies.{waits, waiting, sooner, soonest, sameSender, answerType, hits, asked, matchedBy, joinedBy, served, isAlone, isGroup, aloneAt, groupAt};
+ghost use Rattle.engine.specs.Replies.{isNone, askedNeed, waits, waiting, sooner, soonest, sameSender, answerType, hits, asked, matchedBy, joinedBy, served, isAlone, isGroup, aloneAt, groupAt};
 ghost use Rattle.engine.specs.Passes.{One, All, askedBy, withNeed, withAnswer};
 ghost use Rattle.engine.specs.Asking.{Asking};
 
 // Whether a reply waits: 1, or 0.
-pub(crate) fn wait_of(needed: ResponseNeeded) -> usize
+pub fn wait_of(needed: ResponseNeeded) -> usize
     ensures { λ r. ⌜ (r ≡ waits needed) × (r ≤ 1) ⌝ }
 {
     match needed {
@@ -72,7 +73,7 @@ fn earlier(a: u64, b: u64) -> u64
 }
 
 // The earlier of an instant and that of a reply, if one waits.
-fn sooner_of(time: u64, needed: ResponseNeeded) -> u64
+pub fn sooner_of(time: u64, needed: ResponseNeeded) -> u64
     ensures { λ r. ⌜ r ≡ sooner time needed ⌝ }
 {
     match needed {
@@ -157,7 +158,39 @@ fn with_answer_to(a: ActiveAdvertisement, target: &[u8]) -> ActiveAdvertisement
     with_answer(a, bytes, target.len())
 }
 
-// An advertisement after a search that asks for it: a reply opens, or the searcher joins the one that waits.
+// Whether a search that asks for a name opens a reply: none waits for it.
+pub fn opens(needed: ResponseNeeded) -> bool
+    ensures { λ r. ⌜ r ≡ isNone needed ⌝ }
+{
+    match needed {
+        ResponseNeeded::None => true,
+        ResponseNeeded::Multicast(_) => false,
+        ResponseNeeded::Unicast(_, _, _) => false,
+    }
+}
+
+// The waiting reply of a name after a search that asks for it: one opens, or the searcher joins the one that waits.
+pub fn asked_reply(
+    needed: ResponseNeeded,
+    due: u64,
+    sender: Endpoint,
+    receiver: u32,
+) -> ResponseNeeded
+    ensures { λ r. ⌜ r ≡ askedNeed true due (askedBy [] sender receiver) needed ⌝ }
+{
+    match needed {
+        ResponseNeeded::None => ResponseNeeded::Unicast(due, sender, receiver),
+        ResponseNeeded::Multicast(_) => needed,
+        ResponseNeeded::Unicast(opened_for, opener, _) => {
+            if same_sender(opener, sender) {
+                return needed;
+            }
+            ResponseNeeded::Multicast(opened_for)
+        }
+    }
+}
+
+// An advertisement after a search that asks for it.
 fn answering(
     a: ActiveAdvertisement,
     due: u64,
@@ -169,21 +202,12 @@ fn answering(
     ensures { λ r. ⌜ (hits (askedBy (now (target .entry)) sender receiver) (advertisementOf a) ≡ true → advertisementOf r ≡ asked due (askedBy (now (target .entry)) sender receiver) (advertisementOf a)) ⌝ }
 {
     let needed = a.response_needed;
-    match needed {
-        ResponseNeeded::None => {
-            let opened = with_answer_to(a, target);
-            let reply = ResponseNeeded::Unicast(due, sender, receiver);
-            with_reply(opened, reply)
-        }
-        ResponseNeeded::Multicast(_) => a,
-        ResponseNeeded::Unicast(opened_for, opener, _) => {
-            if same_sender(opener, sender) {
-                return a;
-            }
-            let reply = ResponseNeeded::Multicast(opened_for);
-            with_reply(a, reply)
-        }
+    let reply = asked_reply(needed, due, sender, receiver);
+    if opens(needed) {
+        let opened = with_answer_to(a, target);
+        return with_reply(opened, reply);
     }
+    with_reply(a, reply)
 }
 
 // An advertisement after a search, and whether it matched and joined.
@@ -279,7 +303,7 @@ pub(crate) fn searched(
 }
 
 // Whether a reply waits that is due.
-pub(crate) fn is_due(needed: ResponseNeeded, time: u64) -> bool
+pub fn is_due(needed: ResponseNeeded, time: u64) -> bool
     ensures { λ r. ⌜ r ≡ isDue time needed ⌝ }
 {
     match needed {
@@ -290,7 +314,7 @@ pub(crate) fn is_due(needed: ResponseNeeded, time: u64) -> bool
 }
 
 // Whether a reply to a lone searcher, or to the group, waits: 1, or 0.
-fn alone_of(needed: ResponseNeeded) -> usize
+pub fn alone_of(needed: ResponseNeeded) -> usize
     ensures { λ r. ⌜ (r ≡ isAlone needed) × (r ≤ 1) ⌝ }
 {
     match needed {
@@ -300,7 +324,7 @@ fn alone_of(needed: ResponseNeeded) -> usize
     }
 }
 
-fn group_of(needed: ResponseNeeded) -> usize
+pub fn group_of(needed: ResponseNeeded) -> usize
     ensures { λ r. ⌜ (r ≡ isGroup needed) × (r ≤ 1) ⌝ }
 {
     match needed {

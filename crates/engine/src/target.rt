@@ -40,10 +40,14 @@ fn version_match(search: &[u8], candidate: &[u8]) -> bool
 }
 
 // Whether a search asks for a candidate's type.
-pub(crate) fn target_match(search: &[u8], candidate: &[u8]) -> bool
+pub fn target_match(search: &[u8], candidate: &[u8]) -> bool
     ensures { λ r. ⌜ r ≡ targetMatch (now (search .entry)) (now (candidate .entry)) ⌝ }
 {
-    bytes::equal(search, b"ssdp:all")
-        | bytes::equal(search, candidate)
-        | version_match(search, candidate)
+    if bytes::equal(search, candidate) {
+        return true;
+    }
+    if bytes::equal(search, b"ssdp:all") {
+        return true;
+    }
+    version_match(search, candidate)
 }

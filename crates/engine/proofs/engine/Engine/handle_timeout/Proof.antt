@@ -27,35 +27,24 @@ use borrow.Author.Needs.{needs}
 use Rattle.engine.proofs.engine.Engine.handle_timeout.Statement.{statement}
 use Rattle.engine.proofs.engine.Engine.handle_timeout.Tie as tie
 
-of-timeout-requires : tie.Need-of-timeout-requires
-of-timeout-requires c κs = search needs
+timeout-sent-requires : tie.Need-timeout-sent-requires
+timeout-sent-requires c κs = search needs
 
 refused-requires : tie.Need-refused-requires
 refused-requires c κs = search needs
 
+same-length : tie.Need-same-length
+same-length c = search needs
+
 returns : tie.Need-returns
-unfolding turned namesOf
 returns c =
-    let a = c .before .before .before .before .args in
-    answering.refused-answers (a .self) (Timeout (a .time) (length (a .outbox .now))) (a .outbox .now) (a .outbox .now) (c .refused .result) (c .before .before .of-timeout .result) (sym (c .before .before .of-timeout .ensures _ _ refl))
-    (c .before .if1 .taken) (c .refused .ensures .0) (c .refused .ensures .1) refl
-
-of-up-links-requires : tie.Need-of-up-links-requires
-of-up-links-requires c κs = search needs
-
-send-timeout-requires : tie.Need-send-timeout-requires
-unfolding checks namesOf
-send-timeout-requires c κs =
     let a = c .before .before .before .before .before .before .before .before .before .before .args in
-    let h = held (a .self) in
-    let p = passed (h .context) (namesOf h (Timeout (a .time) (length (a .outbox .now)))) (Timeout (a .time) (length (a .outbox .now))) ((sym (c .before .before .before .before .before .before .before .before .of-timeout .ensures _ _ refl)) ∙ c .before .before .before .before .before .before .before .if1 .left) in
-    omega (arith, ltb-false (length (a .outbox .now)) outboxSize (p .1 .0))
+    let s = c .before .before .before .before .before .timeout-sent .ensures (a .self .«random_seed») in
+    answering.refused-answers (a .self) (Timeout (a .time) (length (a .outbox .now))) (a .outbox .now) _ (c .refused .result) (c .before .before .before .before .before .timeout-sent .result .refusal) (sym (s .refusal))
+    (c .before .if1 .taken) (c .refused .ensures .0) (c .refused .ensures .1) (s .untouched (c .before .if1 .taken))
 
 serve-all-requires : tie.Need-serve-all-requires
 serve-all-requires c κs = search needs
-
-updated-requires : tie.Need-updated-requires
-updated-requires c κs = search needs
 
 sending-requires : tie.Need-sending-requires
 sending-requires c κs = search needs
@@ -63,42 +52,36 @@ sending-requires c κs = search needs
 accepted-requires : tie.Need-accepted-requires
 accepted-requires c κs = search needs
 
-same-length : tie.Need-same-length
-same-length c = search needs
+same-length-2 : tie.Need-same-length-2
+same-length-2 c = search needs
 
 returns-2 : tie.Need-returns-2
-unfolding turned namesOf held contextAfter acts result results records tells checks refreshRecords
+unfolding held contextAfter acts result results tells
 returns-2 c =
-    let a = c .before .before .before .before .before .before .before .before .before .before .before .before .before .before .before .before .before .before .before .args in
+    let a = c .before .before .before .before .before .before .before .before .before .before .before .before .before .before .args in
     let e = a .self in
-    let h = held e in
-    let number = (sym (c .before .before .before .before .before .before .before .before .before .before .before .before .before .before .before .before .before .of-timeout .ensures _ _ refl)) ∙ c .before .before .before .before .before .before .before .before .before .before .before .before .before .before .before .before .if1 .left in
-    let p = passed (h .context) (namesOf h (Timeout (a .time) (length (a .outbox .now)))) (Timeout (a .time) (length (a .outbox .now))) number in
-    let up = c .before .before .before .before .before .before .before .before .before .before .before .before .of-up-links .ensures .held in
-    let s = c .before .before .before .before .before .serve-all .ensures in
+    let sent = c .before .before .before .before .before .before .before .before .before .timeout-sent .ensures (e .«random_seed») in
+    let number = c .before .before .before .before .before .if1 .left in
+    let s = c .before .before .before .before .serve-all .ensures in
     let as′ = advertisementsOf (e .advertisements) in
-    let timer = ap (λ (t : TimerAnswer). t .timer) (c .before .before .before .before .updated .ensures)
-    ∙ timer-accepted (a .time) (e .«refresh_timer») (timerStep (e .«refresh_timer») (a .time)) (omega (arith, ltb-false timeMax (a .time) (p .0))) in
-    answering.done-answers e _ (Timeout (a .time) (length (a .outbox .now))) (c .before .before .before .before .before .before .before .before .send-timeout .result) _ _ number
-    (ap (λ (t : RefreshTimer). holding (e .«random_seed») t (linksOf (e .interfaces)) (subscriptionsOf (e .«active_searches»)) (advertisementsOf (c .before .before .before .before .before .serve-all .result .table))) timer
+    answering.done-answers e _ (Timeout (a .time) (length (a .outbox .now))) (c .before .before .before .before .before .before .before .before .before .timeout-sent .result .records) _ _ (sym (sent .refusal) ∙ number)
+    (ap (λ (t : RefreshTimer). holding (e .«random_seed») t (linksOf (e .interfaces)) (subscriptionsOf (e .«active_searches»)) (advertisementsOf (c .before .before .before .before .serve-all .result .table))) (sent .timer number)
     ∙ ap (λ (l : List Advertisement). holding (e .«random_seed») (timerStep (e .«refresh_timer») (a .time)) (linksOf (e .interfaces)) (subscriptionsOf (e .«active_searches»)) l) (s .table))
-    (c .before .sending .ensures .0 ∙ ap (λ (x : ℕ). sends x (c .before .before .before .before .before .serve-all .result .group)) (s .first) ∙ ap (sends (sumOf (aloneAt (a .time)) as′)) (s .second)
+    (c .before .sending .ensures .0 ∙ ap (λ (x : ℕ). sends x (c .before .before .before .before .serve-all .result .group)) (s .first) ∙ ap (sends (sumOf (aloneAt (a .time)) as′)) (s .second)
     ∙ sym (answering.plus-zeros (sends (sumOf (aloneAt (a .time)) as′) (sumOf (groupAt (a .time)) as′)))) (c .before .sending .ensures .1)
-    (answering.sent-as (c .before .before .before .before .before .before .before .before .send-timeout .ensures) (ap (λ (l : List ℕ). timeoutOn l (leb (e .«refresh_timer» .«next_salvo») (a .time)) (a .time) (subscriptionsOf (e .«active_searches»)) as′) up))
+    (sent .sent number)
     (c .accepted .ensures .0) (c .accepted .ensures .1)
 
 pub handle-timeout-spec : {M : Type 1} → statement M
 handle-timeout-spec =
     tie.close
     (tie.spec
-    of-timeout-requires
+    timeout-sent-requires
     refused-requires
+    same-length
     returns
-    of-up-links-requires
-    send-timeout-requires
     serve-all-requires
-    updated-requires
     sending-requires
     accepted-requires
-    same-length
+    same-length-2
     returns-2)

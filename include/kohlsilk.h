@@ -69,25 +69,17 @@ struct kohlsilk_links {
     struct kohlsilk_link slots[3];
 };
 
-struct kohlsilk_search {
+struct kohlsilk_type {
     uint8_t kind[80];
     size_t kind_len;
 };
 
 struct kohlsilk_searches {
     size_t count;
-    struct kohlsilk_search slots[4];
+    struct kohlsilk_type slots[4];
 };
 
-struct kohlsilk_advertisement {
-    uint8_t name[128];
-    size_t name_len;
-    uint8_t kind[80];
-    size_t kind_len;
-    uint8_t location[120];
-    size_t location_len;
-    uint8_t answer[80];
-    size_t answer_len;
+struct kohlsilk_reply {
     uint64_t due;
     uint32_t sender;
     uint32_t receiver;
@@ -95,9 +87,11 @@ struct kohlsilk_advertisement {
     uint8_t needed;
 };
 
-struct kohlsilk_advertisements {
-    size_t count;
-    struct kohlsilk_advertisement slots[8];
+struct kohlsilk_name {
+    uint8_t name[128];
+    size_t name_len;
+    uint8_t location[120];
+    size_t location_len;
 };
 
 struct kohlsilk_engine {
@@ -105,7 +99,11 @@ struct kohlsilk_engine {
     struct kohlsilk_timer timer;
     struct kohlsilk_links interfaces;
     struct kohlsilk_searches active_searches;
-    struct kohlsilk_advertisements advertisements;
+    size_t count;
+    struct kohlsilk_type kinds[8];
+    struct kohlsilk_type answers[8];
+    struct kohlsilk_reply replies[8];
+    struct kohlsilk_name names[8];
 };
 
 /* What a call on an engine answers. Of a refused call all but `refusal`, `waiting` and `poll` is 0. */

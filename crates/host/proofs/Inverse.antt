@@ -3,7 +3,9 @@ use mathlib.Core.Path.{_≡_, refl, ap, _∙_}
 use mathlib.Core.Bool.{Bool, true, false, cond, not}
 use mathlib.Core.List.{List, [], _∷_, map}
 use Prim.Native.Nat.{ℕ}
+use native.Mathlib.Omega.{arith}
 use lib.Dec.{eqb}
+use lib.ListN.{length}
 use Rattle.engine.specs.declared.interface.Interface.{Interface}
 use Rattle.engine.specs.declared.interface.Interfaces.{Interfaces}
 use Rattle.engine.specs.declared.subscription.ActiveSearch.{ActiveSearch}
@@ -16,14 +18,13 @@ use Rattle.engine.specs.declared.engine.Engine.{Engine}
 use Rattle.host.specs.declared.held.HeldTimer.{HeldTimer}
 use Rattle.host.specs.declared.held.HeldLink.{HeldLink}
 use Rattle.host.specs.declared.held.HeldLinks.{HeldLinks}
-use Rattle.host.specs.declared.held.HeldSearch.{HeldSearch}
+use Rattle.host.specs.declared.held.HeldType.{HeldType}
 use Rattle.host.specs.declared.held.HeldSearches.{HeldSearches}
-use Rattle.host.specs.declared.held.HeldAdvertisement.{HeldAdvertisement}
-use Rattle.host.specs.declared.held.HeldAdvertisements.{HeldAdvertisements}
+use Rattle.host.specs.declared.held.HeldReply.{HeldReply}
+use Rattle.host.specs.declared.held.HeldName.{HeldName}
 use Rattle.host.specs.declared.held.HeldEngine.{HeldEngine}
-use Rattle.host.specs.declared.hold.HeldNeeded.{HeldNeeded}
-use Rattle.host.specs.Held.{linkOf, linksOf, searchOf, searchesOf, waiting, advertisementOf, advertisementsOf, engineOf}
-use Rattle.host.specs.Holding.{heldTimer, heldLink, heldLinks, heldSearch, heldSearches, heldWait, withWait, heldAdvertisement, heldAdvertisements, heldOf, PlainUp, down, up, PlainWait, none, group, lone, Every, Plain}
+use Rattle.host.specs.Held.{linkOf, linksOf, searchOf, searchesOf, waiting, replyOf, advertisementOf, slotsOf, engineOf}
+use Rattle.host.specs.Holding.{heldTimer, heldLink, heldLinks, heldSearch, heldSearches, heldReply, heldName, heldKind, heldAnswerType, heldReplyOf, heldOf, PlainUp, down, up, PlainWait, none, group, lone, Every, Plain}
 use Rattle.host.proofs.Tables.{with-wait}
 use Rattle.host.proofs.Crossing.{same-engine}
 
@@ -40,8 +41,8 @@ searches-of t l = record { count = t .count; slots = l }
 abbrev advertisements-of : Advertisements → List ActiveAdvertisement → Advertisements
 advertisements-of t l = record { count = t .count; slots = l }
 
-abbrev held-wait : ℕ → ℕ → ℕ → ℕ → ℕ → HeldNeeded
-held-wait needed due sender port receiver = record { due = due; sender = sender; receiver = receiver; port = port; needed = needed }
+abbrev held-reply : ℕ → ℕ → ℕ → ℕ → ℕ → HeldReply
+held-reply needed due sender port receiver = record { due = due; sender = sender; receiver = receiver; port = port; needed = needed }
 
 abbrev held-link : HeldLink → ℕ → HeldLink
 held-link l n = record { index = l .index; up = n; count = l .count; addresses = l .addresses }
@@ -49,14 +50,37 @@ held-link l n = record { index = l .index; up = n; count = l .count; addresses =
 abbrev held-links : HeldLinks → List HeldLink → HeldLinks
 held-links t l = record { count = t .count; slots = l }
 
-abbrev held-searches : HeldSearches → List HeldSearch → HeldSearches
+abbrev held-searches : HeldSearches → List HeldType → HeldSearches
 held-searches t l = record { count = t .count; slots = l }
 
-abbrev held-advertisements : HeldAdvertisements → List HeldAdvertisement → HeldAdvertisements
-held-advertisements t l = record { count = t .count; slots = l }
+-- the tables of an advertisement's parts
+record Parts : Type 0 where
+  names : List HeldName
+  kinds : List HeldType
+  answers : List HeldType
+  replies : List HeldReply
 
-abbrev held-engine : HeldEngine → HeldLinks → HeldSearches → HeldAdvertisements → HeldEngine
-held-engine h l s a = record { «random_seed» = h .«random_seed»; «refresh_timer» = h .«refresh_timer»; interfaces = l; «active_searches» = s; advertisements = a }
+abbrev tables : List HeldName → List HeldType → List HeldType → List HeldReply → Parts
+tables ns ks ws as′ = record { names = ns; kinds = ks; answers = ws; replies = as′ }
+
+abbrev parts-of : List ActiveAdvertisement → Parts
+parts-of l = tables (map heldName l) (map heldKind l) (map heldAnswerType l) (map heldReplyOf l)
+
+abbrev part : HeldName → HeldType → HeldType → HeldReply → Parts → Parts
+part n k w a p = record { names = n ∷ p .names; kinds = k ∷ p .kinds; answers = w ∷ p .answers; replies = a ∷ p .replies }
+
+abbrev assembled : ℕ → HeldTimer → HeldLinks → HeldSearches → ℕ → Parts → HeldEngine
+assembled seed t l s count p = record {
+  «random_seed» = seed;
+  «refresh_timer» = t;
+  interfaces = l;
+  «active_searches» = s;
+  count = count;
+  kinds = p .kinds;
+  answers = p .answers;
+  replies = p .replies;
+  names = p .names;
+}
 
 -- slot by slot, of those that meet a condition
 back : {A B : Type 0} (f : A → B) (g : B → A) (P : B → Type 0) → ((b : B) → P b → f (g b) ≡ b) → (l : List B) → Every P l → map f (map g l) ≡ l
@@ -75,17 +99,10 @@ up-back false = refl
 link-back : (l : Interface) → linkOf (heldLink l) ≡ l
 link-back l = ap (with-up l) (up-back (l .up))
 
--- the reply that numbers stand for
-abbrev waitOf : HeldNeeded → ResponseNeeded
-waitOf n = waiting (n .needed) (n .due) (n .sender) (n .port) (n .receiver)
-
-wait-back : (n : ResponseNeeded) → waitOf (heldWait n) ≡ n
-wait-back None = refl
-wait-back (Multicast due) = refl
-wait-back (Unicast due sender receiver) = refl
-
-advertisement-back : (a : ActiveAdvertisement) → advertisementOf (heldAdvertisement a) ≡ a
-advertisement-back a = ap (with-wait a) (wait-back (a .«response_needed»))
+pub reply-back : (n : ResponseNeeded) → replyOf (heldReply n) ≡ n
+reply-back None = refl
+reply-back (Multicast due) = refl
+reply-back (Unicast due sender receiver) = refl
 
 links-back : (t : Interfaces) → linksOf (heldLinks t) ≡ t
 unfolding linksOf heldLinks
@@ -95,29 +112,33 @@ searches-back : (t : ActiveSearches) → searchesOf (heldSearches t) ≡ t
 unfolding searchesOf heldSearches
 searches-back t = ap (searches-of t) (back searchOf heldSearch (λ x. Unit {0}) (λ s p. refl) (t .slots) (every (t .slots)))
 
-advertisements-back : (t : Advertisements) → advertisementsOf (heldAdvertisements t) ≡ t
-unfolding advertisementsOf heldAdvertisements
-advertisements-back t = ap (advertisements-of t) (back advertisementOf heldAdvertisement (λ x. Unit {0}) (λ a p. advertisement-back a) (t .slots) (every (t .slots)))
+slots-back : (l : List ActiveAdvertisement) → slotsOf (map heldName l) (map heldKind l) (map heldAnswerType l) (map heldReplyOf l) ≡ l
+unfolding slotsOf
+slots-back [] = refl
+slots-back (a ∷ l) = λ i. with-wait a (reply-back (a .«response_needed») i) ∷ slots-back l i
 
 pub opened-again : (e : Engine) → engineOf (heldOf e) ≡ e
 unfolding engineOf heldOf
-opened-again e = same-engine (e .«random_seed») refl (links-back (e .interfaces)) (searches-back (e .«active_searches»)) (advertisements-back (e .advertisements))
+opened-again e = same-engine (e .«random_seed») refl (links-back (e .interfaces)) (searches-back (e .«active_searches»)) (ap (advertisements-of (e .advertisements)) (slots-back (e .advertisements .slots)))
 
 -- ---- opened and held
 up-forth : (n : ℕ) → PlainUp n → cond (not (eqb n 0)) 1 0 ≡ n
 up-forth _ down = refl
 up-forth _ up = refl
 
-wait-forth : (needed due sender port receiver : ℕ) → PlainWait needed due sender port receiver → heldWait (waiting needed due sender port receiver) ≡ held-wait needed due sender port receiver
+abbrev Waits : HeldReply → Type 0
+Waits a = PlainWait (a .needed) (a .due) (a .sender) (a .port) (a .receiver)
+
+wait-forth : (needed due sender port receiver : ℕ) → PlainWait needed due sender port receiver → heldReply (waiting needed due sender port receiver) ≡ held-reply needed due sender port receiver
 wait-forth _ _ _ _ _ none = refl
 wait-forth _ _ _ _ _ group = refl
 wait-forth _ _ _ _ _ lone = refl
 
+reply-forth : (a : HeldReply) → Waits a → heldReply (replyOf a) ≡ a
+reply-forth a p = wait-forth (a .needed) (a .due) (a .sender) (a .port) (a .receiver) p
+
 link-forth : (l : HeldLink) → PlainUp (l .up) → heldLink (linkOf l) ≡ l
 link-forth l p = ap (held-link l) (up-forth (l .up) p)
-
-advertisement-forth : (a : HeldAdvertisement) → PlainWait (a .needed) (a .due) (a .sender) (a .port) (a .receiver) → heldAdvertisement (advertisementOf a) ≡ a
-advertisement-forth a p = ap (withWait (advertisementOf a)) (wait-forth (a .needed) (a .due) (a .sender) (a .port) (a .receiver) p)
 
 links-forth : (t : HeldLinks) → Every (λ l. PlainUp (l .up)) (t .slots) → heldLinks (linksOf t) ≡ t
 unfolding linksOf heldLinks
@@ -127,22 +148,38 @@ searches-forth : (t : HeldSearches) → heldSearches (searchesOf t) ≡ t
 unfolding searchesOf heldSearches
 searches-forth t = ap (held-searches t) (back heldSearch searchOf (λ x. Unit {0}) (λ s p. refl) (t .slots) (every (t .slots)))
 
-advertisements-forth : (t : HeldAdvertisements) → Every (λ a. PlainWait (a .needed) (a .due) (a .sender) (a .port) (a .receiver)) (t .slots) → heldAdvertisements (advertisementsOf t) ≡ t
-unfolding advertisementsOf heldAdvertisements
-advertisements-forth t p = ap (held-advertisements t) (back heldAdvertisement advertisementOf (λ a. PlainWait (a .needed) (a .due) (a .sender) (a .port) (a .receiver)) advertisement-forth (t .slots) p)
+-- the parts of the slots of four tables, as long as each other, are those tables
+slots-forth : (ns : List HeldName) (ks ws : List HeldType) (as′ : List HeldReply) → length ks ≡ length ns → length ws ≡ length ns → length as′ ≡ length ns → Every Waits as′
+    → parts-of (slotsOf ns ks ws as′) ≡ tables ns ks ws as′
+unfolding slotsOf
+slots-forth [] [] [] [] ek ew ea ps = refl
+slots-forth [] [] [] (a ∷ as′) ek ew ea ps = absurd (omega (arith, ea))
+slots-forth [] [] (w ∷ ws) as′ ek ew ea ps = absurd (omega (arith, ew))
+slots-forth [] (k ∷ ks) ws as′ ek ew ea ps = absurd (omega (arith, ek))
+slots-forth (n ∷ ns) [] ws as′ ek ew ea ps = absurd (omega (arith, ek))
+slots-forth (n ∷ ns) (k ∷ ks) [] as′ ek ew ea ps = absurd (omega (arith, ew))
+slots-forth (n ∷ ns) (k ∷ ks) (w ∷ ws) [] ek ew ea ps = absurd (omega (arith, ea))
+slots-forth (n ∷ ns) (k ∷ ks) (w ∷ ws) (a ∷ as′) ek ew ea ps =
+    let r = slots-forth ns ks ws as′ (omega (arith, ek)) (omega (arith, ew)) (omega (arith, ea)) (ps .1) in
+    λ i. part n k w (reply-forth a (ps .0) i) (r i)
 
 pub held-again : (h : HeldEngine) → Plain h → heldOf (engineOf h) ≡ h
 unfolding engineOf heldOf
-held-again h p = λ i. held-engine h (links-forth (h .interfaces) (p .links) i) (searches-forth (h .«active_searches») i) (advertisements-forth (h .advertisements) (p .waits) i)
-
-abbrev assembled : ℕ → HeldTimer → HeldLinks → HeldSearches → HeldAdvertisements → HeldEngine
-assembled seed t l s a = record { «random_seed» = seed; «refresh_timer» = t; interfaces = l; «active_searches» = s; advertisements = a }
+held-again h p =
+    let r = slots-forth (h .names) (h .kinds) (h .answers) (h .replies) (p .kinds) (p .answers) (p .replies) (p .waits) in
+    λ i. assembled (h .«random_seed») (h .«refresh_timer») (links-forth (h .interfaces) (p .links) i) (searches-forth (h .«active_searches») i) (h .count) (r i)
 
 -- an engine, held part by part
-pub held-whole : (e : Engine) {t : HeldTimer} {l : HeldLinks} {s : HeldSearches} {a : HeldAdvertisements}
-    → t ≡ heldTimer (e .«refresh_timer») → l ≡ heldLinks (e .interfaces) → s ≡ heldSearches (e .«active_searches») → a ≡ heldAdvertisements (e .advertisements)
-    → (engineOf (assembled (e .«random_seed») t l s a) ≡ e) × (assembled (e .«random_seed») t l s a ≡ heldOf e)
+pub held-whole : (e : Engine) {t : HeldTimer} {l : HeldLinks} {s : HeldSearches} {ns : List HeldName} {ks ws : List HeldType} {as′ : List HeldReply}
+    → t ≡ heldTimer (e .«refresh_timer»)
+    → l ≡ heldLinks (e .interfaces)
+    → s ≡ heldSearches (e .«active_searches»)
+    → ns ≡ map heldName (e .advertisements .slots)
+    → ks ≡ map heldKind (e .advertisements .slots)
+    → ws ≡ map heldAnswerType (e .advertisements .slots)
+    → as′ ≡ map heldReplyOf (e .advertisements .slots)
+    → let h = assembled (e .«random_seed») t l s (e .advertisements .count) (tables ns ks ws as′) in (engineOf h ≡ e) × (h ≡ heldOf e)
 unfolding heldOf
-held-whole e {t} {l} {s} {a} p q r w =
-    let whole : assembled (e .«random_seed») t l s a ≡ heldOf e = λ i. assembled (e .«random_seed») (p i) (q i) (r i) (w i) in
+held-whole e {t} {l} {s} {ns} {ks} {ws} {as′} p q r n k w a =
+    let whole : assembled (e .«random_seed») t l s (e .advertisements .count) (tables ns ks ws as′) ≡ heldOf e = λ i. assembled (e .«random_seed») (p i) (q i) (r i) (e .advertisements .count) (tables (n i) (k i) (w i) (a i)) in
     (ap engineOf whole ∙ opened-again e, whole)

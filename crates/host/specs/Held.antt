@@ -1,7 +1,7 @@
 -- The engine that the host's numbers stand for.
 use Prim.Native.Nat.{ℕ}
 use mathlib.Core.Bool.{cond, not}
-use mathlib.Core.List.{map}
+use mathlib.Core.List.{List, [], _∷_, map}
 use lib.Dec.{eqb}
 use Rattle.engine.specs.declared.refresh_timer.RefreshTimer.{RefreshTimer}
 use Rattle.engine.specs.declared.interface.Interface.{Interface}
@@ -18,10 +18,10 @@ use Rattle.engine.specs.declared.engine.Answer.{Answer}
 use Rattle.host.specs.declared.held.HeldTimer.{HeldTimer}
 use Rattle.host.specs.declared.held.HeldLink.{HeldLink}
 use Rattle.host.specs.declared.held.HeldLinks.{HeldLinks}
-use Rattle.host.specs.declared.held.HeldSearch.{HeldSearch}
+use Rattle.host.specs.declared.held.HeldType.{HeldType}
 use Rattle.host.specs.declared.held.HeldSearches.{HeldSearches}
-use Rattle.host.specs.declared.held.HeldAdvertisement.{HeldAdvertisement}
-use Rattle.host.specs.declared.held.HeldAdvertisements.{HeldAdvertisements}
+use Rattle.host.specs.declared.held.HeldReply.{HeldReply}
+use Rattle.host.specs.declared.held.HeldName.{HeldName}
 use Rattle.host.specs.declared.held.HeldEngine.{HeldEngine}
 use Rattle.host.specs.declared.held.HeldAnswer.{HeldAnswer}
 
@@ -35,7 +35,7 @@ linkOf l = record { index = l .index; up = not (eqb (l .up) 0); count = l .count
 unfoldable pub linksOf : HeldLinks → Interfaces
 linksOf t = record { count = t .count; slots = map linkOf (t .slots) }
 
-abbrev pub searchOf : HeldSearch → ActiveSearch
+abbrev pub searchOf : HeldType → ActiveSearch
 searchOf s = record { kind = s .kind; «kind_len» = s .«kind_len» }
 
 unfoldable pub searchesOf : HeldSearches → ActiveSearches
@@ -51,24 +51,33 @@ waiting needed due sender port receiver =
     cond (eqb needed 1) (Multicast due)
     (cond (eqb needed 2) (Unicast due (endpointOf sender port) receiver) None)
 
-abbrev pub neededOf : HeldAdvertisement → ResponseNeeded
-neededOf a = waiting (a .needed) (a .due) (a .sender) (a .port) (a .receiver)
+abbrev pub replyOf : HeldReply → ResponseNeeded
+replyOf a = waiting (a .needed) (a .due) (a .sender) (a .port) (a .receiver)
 
-abbrev pub advertisementOf : HeldAdvertisement → ActiveAdvertisement
-advertisementOf a = record {
-  name = a .name;
-  «name_len» = a .«name_len»;
-  kind = a .kind;
-  «kind_len» = a .«kind_len»;
-  location = a .location;
-  «location_len» = a .«location_len»;
-  «response_needed» = neededOf a;
-  answer = a .answer;
-  «answer_len» = a .«answer_len»;
+-- an advertisement from its parts: name and location, type, answer type, waiting reply
+abbrev pub advertisementOf : HeldName → HeldType → HeldType → HeldReply → ActiveAdvertisement
+advertisementOf n k w a = record {
+  name = n .name;
+  «name_len» = n .«name_len»;
+  kind = k .kind;
+  «kind_len» = k .«kind_len»;
+  location = n .location;
+  «location_len» = n .«location_len»;
+  «response_needed» = replyOf a;
+  answer = w .kind;
+  «answer_len» = w .«kind_len»;
 }
 
-unfoldable pub advertisementsOf : HeldAdvertisements → Advertisements
-advertisementsOf t = record { count = t .count; slots = map advertisementOf (t .slots) }
+-- the slots, from the tables of the parts
+unfoldable pub slotsOf : List HeldName → List HeldType → List HeldType → List HeldReply → List ActiveAdvertisement
+slotsOf [] ks ws as′ = []
+slotsOf (n ∷ ns) [] ws as′ = []
+slotsOf (n ∷ ns) (k ∷ ks) [] as′ = []
+slotsOf (n ∷ ns) (k ∷ ks) (w ∷ ws) [] = []
+slotsOf (n ∷ ns) (k ∷ ks) (w ∷ ws) (a ∷ as′) = advertisementOf n k w a ∷ slotsOf ns ks ws as′
+
+abbrev pub tableOf : ℕ → List HeldName → List HeldType → List HeldType → List HeldReply → Advertisements
+tableOf count ns ks ws as′ = record { count = count; slots = slotsOf ns ks ws as′ }
 
 unfoldable pub engineOf : HeldEngine → Engine
 engineOf h = record {
@@ -76,7 +85,7 @@ engineOf h = record {
   «refresh_timer» = timerOf (h .«refresh_timer»);
   interfaces = linksOf (h .interfaces);
   «active_searches» = searchesOf (h .«active_searches»);
-  advertisements = advertisementsOf (h .advertisements);
+  advertisements = tableOf (h .count) (h .names) (h .kinds) (h .answers) (h .replies);
 }
 
 -- the answer that the host's numbers stand for

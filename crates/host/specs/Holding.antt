@@ -2,6 +2,8 @@
 use Prim.Native.Nat.{ℕ}
 use mathlib.Core.Bool.{cond}
 use mathlib.Core.List.{List, [], _∷_, map}
+use mathlib.Core.Path.{_≡_}
+use lib.ListN.{length}
 use Rattle.engine.specs.declared.refresh_timer.RefreshTimer.{RefreshTimer}
 use Rattle.engine.specs.declared.interface.Interface.{Interface}
 use Rattle.engine.specs.declared.interface.Interfaces.{Interfaces}
@@ -10,17 +12,15 @@ use Rattle.engine.specs.declared.subscription.ActiveSearches.{ActiveSearches}
 use Rattle.engine.specs.declared.advertisement.ResponseNeeded.{ResponseNeeded}
 use Rattle.engine.specs.declared.advertisement.ResponseNeeded.the-variants.{None, Multicast, Unicast}
 use Rattle.engine.specs.declared.advertisement.ActiveAdvertisement.{ActiveAdvertisement}
-use Rattle.engine.specs.declared.advertisement.Advertisements.{Advertisements}
 use Rattle.engine.specs.declared.engine.Engine.{Engine}
 use Rattle.host.specs.declared.held.HeldTimer.{HeldTimer}
 use Rattle.host.specs.declared.held.HeldLink.{HeldLink}
 use Rattle.host.specs.declared.held.HeldLinks.{HeldLinks}
-use Rattle.host.specs.declared.held.HeldSearch.{HeldSearch}
+use Rattle.host.specs.declared.held.HeldType.{HeldType}
 use Rattle.host.specs.declared.held.HeldSearches.{HeldSearches}
-use Rattle.host.specs.declared.held.HeldAdvertisement.{HeldAdvertisement}
-use Rattle.host.specs.declared.held.HeldAdvertisements.{HeldAdvertisements}
+use Rattle.host.specs.declared.held.HeldReply.{HeldReply}
+use Rattle.host.specs.declared.held.HeldName.{HeldName}
 use Rattle.host.specs.declared.held.HeldEngine.{HeldEngine}
-use Rattle.host.specs.declared.hold.HeldNeeded.{HeldNeeded}
 
 abbrev pub heldTimer : RefreshTimer → HeldTimer
 heldTimer t = record { «random_seed» = t .«random_seed»; «next_salvo» = t .«next_salvo»; phase = t .phase }
@@ -31,39 +31,29 @@ heldLink l = record { index = l .index; up = cond (l .up) 1 0; count = l .count;
 unfoldable pub heldLinks : Interfaces → HeldLinks
 heldLinks t = record { count = t .count; slots = map heldLink (t .slots) }
 
-abbrev pub heldSearch : ActiveSearch → HeldSearch
+abbrev pub heldSearch : ActiveSearch → HeldType
 heldSearch s = record { kind = s .kind; «kind_len» = s .«kind_len» }
 
 unfoldable pub heldSearches : ActiveSearches → HeldSearches
 heldSearches t = record { count = t .count; slots = map heldSearch (t .slots) }
 
-abbrev pub heldWait : ResponseNeeded → HeldNeeded
-heldWait None = record { due = 0; sender = 0; receiver = 0; port = 0; needed = 0 }
-heldWait (Multicast due) = record { due = due; sender = 0; receiver = 0; port = 0; needed = 1 }
-heldWait (Unicast due sender receiver) = record { due = due; sender = sender .address; receiver = receiver; port = sender .port; needed = 2 }
+abbrev pub heldReply : ResponseNeeded → HeldReply
+heldReply None = record { due = 0; sender = 0; receiver = 0; port = 0; needed = 0 }
+heldReply (Multicast due) = record { due = due; sender = 0; receiver = 0; port = 0; needed = 1 }
+heldReply (Unicast due sender receiver) = record { due = due; sender = sender .address; receiver = receiver; port = sender .port; needed = 2 }
 
-abbrev pub withWait : ActiveAdvertisement → HeldNeeded → HeldAdvertisement
-withWait a n = record {
-  name = a .name;
-  «name_len» = a .«name_len»;
-  kind = a .kind;
-  «kind_len» = a .«kind_len»;
-  location = a .location;
-  «location_len» = a .«location_len»;
-  answer = a .answer;
-  «answer_len» = a .«answer_len»;
-  due = n .due;
-  sender = n .sender;
-  receiver = n .receiver;
-  port = n .port;
-  needed = n .needed;
-}
+-- the parts of an advertisement
+abbrev pub heldName : ActiveAdvertisement → HeldName
+heldName a = record { name = a .name; «name_len» = a .«name_len»; location = a .location; «location_len» = a .«location_len» }
 
-abbrev pub heldAdvertisement : ActiveAdvertisement → HeldAdvertisement
-heldAdvertisement a = withWait a (heldWait (a .«response_needed»))
+abbrev pub heldKind : ActiveAdvertisement → HeldType
+heldKind a = record { kind = a .kind; «kind_len» = a .«kind_len» }
 
-unfoldable pub heldAdvertisements : Advertisements → HeldAdvertisements
-heldAdvertisements t = record { count = t .count; slots = map heldAdvertisement (t .slots) }
+abbrev pub heldAnswerType : ActiveAdvertisement → HeldType
+heldAnswerType a = record { kind = a .answer; «kind_len» = a .«answer_len» }
+
+abbrev pub heldReplyOf : ActiveAdvertisement → HeldReply
+heldReplyOf a = heldReply (a .«response_needed»)
 
 unfoldable pub heldOf : Engine → HeldEngine
 heldOf e = record {
@@ -71,7 +61,11 @@ heldOf e = record {
   «refresh_timer» = heldTimer (e .«refresh_timer»);
   interfaces = heldLinks (e .interfaces);
   «active_searches» = heldSearches (e .«active_searches»);
-  advertisements = heldAdvertisements (e .advertisements);
+  count = e .advertisements .count;
+  kinds = map heldKind (e .advertisements .slots);
+  answers = map heldAnswerType (e .advertisements .slots);
+  replies = map heldReplyOf (e .advertisements .slots);
+  names = map heldName (e .advertisements .slots);
 }
 
 -- ---- the values that `heldOf` gives: a link's `up` is 0 or 1, and what a waiting reply does not need is 0
@@ -89,6 +83,10 @@ abbrev pub Every : {A : Type 0} → (A → Type 0) → List A → Type 0
 Every P [] = Unit {0}
 Every P (x ∷ l) = P x × Every P l
 
+-- and the four tables have as many slots, as they do in every value of the struct
 pub record Plain (h : HeldEngine) : Type 0 where
   pub links : Every (λ l. PlainUp (l .up)) (h .interfaces .slots)
-  pub waits : Every (λ a. PlainWait (a .needed) (a .due) (a .sender) (a .port) (a .receiver)) (h .advertisements .slots)
+  pub waits : Every (λ a. PlainWait (a .needed) (a .due) (a .sender) (a .port) (a .receiver)) (h .replies)
+  pub kinds : length (h .kinds) ≡ length (h .names)
+  pub answers : length (h .answers) ≡ length (h .names)
+  pub replies : length (h .replies) ≡ length (h .names)

@@ -1,15 +1,13 @@
-// The engine's calls over what the host holds, by value: opened, called, held.
+// The engine's calls over what the host holds, by value: opened, called, held. `on_data` and `handle_timeout` have files of their own.
 use crate::held::HeldAnswered;
 use crate::held::HeldEngine;
 use crate::hold::hold_accepted;
 use crate::hold::hold_begun;
 use crate::open::open;
-use engine::advertisement::Endpoint;
 use engine::engine::Engine;
 ghost use mathlib.Core.List.{[]};
 ghost use lib.ListN.{length};
-ghost use Rattle.engine.specs.Calls.{NewLink, DeletedLink, NewAddress, DeletedAddress, Subscribe, Advertise, Deadvertise, Refresh, Datagram, Timeout, ResetTimer};
-ghost use Rattle.host.specs.Held.{endpointOf};
+ghost use Rattle.engine.specs.Calls.{NewLink, DeletedLink, NewAddress, DeletedAddress, Subscribe, Advertise, Deadvertise, Refresh, ResetTimer};
 ghost use Rattle.host.specs.Boundary.{Crosses, Starts};
 
 pub fn new(random_seed: u32, time: u64) -> HeldAnswered
@@ -99,33 +97,5 @@ pub fn deadvertise(h: HeldEngine, name: &[u8], outbox: &mut [u8]) -> HeldAnswere
 {
     let e = open(h);
     let done = e.deadvertise(name, outbox);
-    hold_accepted(h, done, true)
-}
-
-pub fn on_data(
-    h: HeldEngine,
-    time: u64,
-    sender: u32,
-    port: u16,
-    receiver: u32,
-    datagram: &[u8],
-) -> HeldAnswered
-    ensures { λ r. ⌜ Crosses h (Datagram time (endpointOf sender port) receiver (now (datagram .entry))) [] [] (r .engine) (r .answer) ⌝ }
-{
-    let from = Endpoint {
-        address: sender,
-        port: port,
-    };
-    let e = open(h);
-    let done = e.on_data(time, from, receiver, datagram);
-    let answer = done.answer;
-    hold_accepted(h, done, answer.matched != 0)
-}
-
-pub fn handle_timeout(h: HeldEngine, time: u64, outbox: &mut [u8]) -> HeldAnswered
-    ensures { λ r. ⌜ Crosses h (Timeout time (length (now (outbox .entry)))) (now (outbox .entry)) (now (outbox .exit)) (r .engine) (r .answer) ⌝ }
-{
-    let e = open(h);
-    let done = e.handle_timeout(time, outbox);
     hold_accepted(h, done, true)
 }

@@ -1,7 +1,9 @@
 // What is exported. Each call copies the lent engine, runs by value and stores what it gave back: a refused call gives back what it was lent.
 use crate::calls;
+use crate::datagram;
 use crate::held::HeldAnswer;
 use crate::held::HeldEngine;
+use crate::timeout;
 ghost use mathlib.Core.List.{[]};
 ghost use lib.ListN.{length};
 ghost use Rattle.engine.specs.Calls.{NewLink, DeletedLink, NewAddress, DeletedAddress, Subscribe, Advertise, Deadvertise, Refresh, Datagram, Timeout, ResetTimer};
@@ -173,9 +175,13 @@ pub extern "C" fn kohlsilk_on_data(
     ensures { λ r. ⌜ Crosses (now (engine .entry)) (Datagram time (endpointOf sender port) receiver (now (datagram .entry))) [] [] (now (engine .exit)) r ⌝ }
 {
     let before = *engine;
-    let done = calls::on_data(before, time, sender, port, receiver, datagram);
-    let after = done.engine;
-    *engine = after;
+    let done = datagram::on_data(before, time, sender, port, receiver, datagram);
+    if done.asked {
+        let answers = done.answers;
+        let replies = done.replies;
+        engine.answers = answers;
+        engine.replies = replies;
+    }
     done.answer
 }
 
@@ -189,8 +195,10 @@ pub extern "C" fn kohlsilk_handle_timeout(
     ensures { λ r. ⌜ Crosses (now (engine .entry)) (Timeout time (length (now (outbox .entry)))) (now (outbox .entry)) (now (outbox .exit)) (now (engine .exit)) r ⌝ }
 {
     let before = *engine;
-    let done = calls::handle_timeout(before, time, outbox);
-    let after = done.engine;
-    *engine = after;
+    let done = timeout::handle_timeout(before, time, outbox);
+    let timer = done.timer;
+    let replies = done.replies;
+    engine.refresh_timer = timer;
+    engine.replies = replies;
     done.answer
 }

@@ -23,31 +23,24 @@ pub struct HeldLinks {
     pub slots: [HeldLink; 3],
 }
 
-// As engine::subscription::ActiveSearch.
+// A type: the first `kind_len` bytes of `kind`.
 #[repr(C)]
-pub struct HeldSearch {
+pub struct HeldType {
     pub kind: [u8; 80],
     pub kind_len: usize,
 }
 
+// As engine::subscription::ActiveSearches.
 #[repr(C)]
 pub struct HeldSearches {
     pub count: usize,
-    pub slots: [HeldSearch; 4],
+    pub slots: [HeldType; 4],
 }
 
-// As engine::advertisement::ActiveAdvertisement. `needed` is 1 for a reply that waits for the group, 2 for one that waits for one searcher, and
-// any other number for none; the instant, the searcher and the address that its search reached stand beside it.
+// A waiting reply. `needed` is 1 for one that waits for the group, 2 for one that waits for one searcher, and any other number for none; the
+// instant, the searcher and the address that its search reached stand beside it.
 #[repr(C)]
-pub struct HeldAdvertisement {
-    pub name: [u8; 128],
-    pub name_len: usize,
-    pub kind: [u8; 80],
-    pub kind_len: usize,
-    pub location: [u8; 120],
-    pub location_len: usize,
-    pub answer: [u8; 80],
-    pub answer_len: usize,
+pub struct HeldReply {
     pub due: u64,
     pub sender: u32,
     pub receiver: u32,
@@ -55,20 +48,27 @@ pub struct HeldAdvertisement {
     pub needed: u8,
 }
 
+// A name and its location.
 #[repr(C)]
-pub struct HeldAdvertisements {
-    pub count: usize,
-    pub slots: [HeldAdvertisement; 8],
+pub struct HeldName {
+    pub name: [u8; 128],
+    pub name_len: usize,
+    pub location: [u8; 120],
+    pub location_len: usize,
 }
 
-// As engine::engine::Engine.
+// As engine::engine::Engine. The parts of an advertisement stand apart, each in a table of its own: a call copies the tables that it needs.
 #[repr(C)]
 pub struct HeldEngine {
     pub random_seed: u32,
     pub refresh_timer: HeldTimer,
     pub interfaces: HeldLinks,
     pub active_searches: HeldSearches,
-    pub advertisements: HeldAdvertisements,
+    pub count: usize,
+    pub kinds: [HeldType; 8],
+    pub answers: [HeldType; 8],
+    pub replies: [HeldReply; 8],
+    pub names: [HeldName; 8],
 }
 
 // As engine::engine::Answer.
@@ -91,5 +91,20 @@ pub struct HeldAnswer {
 // A call's answer with what the host is to hold after it.
 pub struct HeldAnswered {
     pub engine: HeldEngine,
+    pub answer: HeldAnswer,
+}
+
+// What a datagram makes of the answer types and the waiting replies, whether it was a search that was heard, and the answer.
+pub struct HeldHeard {
+    pub answers: [HeldType; 8],
+    pub replies: [HeldReply; 8],
+    pub asked: bool,
+    pub answer: HeldAnswer,
+}
+
+// What a handle_timeout makes of the timer and the waiting replies, and the answer.
+pub struct HeldTicked {
+    pub timer: HeldTimer,
+    pub replies: [HeldReply; 8],
     pub answer: HeldAnswer,
 }

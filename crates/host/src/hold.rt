@@ -1,14 +1,14 @@
 // An engine in the host's numbers: held on exit of each call that is accepted.
-use crate::held::HeldAdvertisement;
-use crate::held::HeldAdvertisements;
 use crate::held::HeldAnswer;
 use crate::held::HeldAnswered;
 use crate::held::HeldEngine;
 use crate::held::HeldLink;
 use crate::held::HeldLinks;
-use crate::held::HeldSearch;
+use crate::held::HeldName;
+use crate::held::HeldReply;
 use crate::held::HeldSearches;
 use crate::held::HeldTimer;
+use crate::held::HeldType;
 use engine::advertisement::ActiveAdvertisement;
 use engine::advertisement::Advertisements;
 use engine::advertisement::Endpoint;
@@ -22,12 +22,13 @@ use engine::refresh_timer::RefreshTimer;
 use engine::subscription::ActiveSearch;
 use engine::subscription::ActiveSearches;
 ghost use mathlib.Core.Path.{_≡_};
+ghost use mathlib.Core.List.{map};
 ghost use Rattle.engine.specs.declared.advertisement.ResponseNeeded.the-variants.{Unicast};
 ghost use Rattle.host.specs.Held.{engineOf, answerOf};
-ghost use Rattle.host.specs.Holding.{heldTimer, heldLink, heldLinks, heldSearch, heldSearches, heldWait, heldAdvertisement, heldAdvertisements, heldOf};
+ghost use Rattle.host.specs.Holding.{heldTimer, heldLink, heldLinks, heldSearch, heldSearches, heldReply, heldName, heldKind, heldAnswerType, heldReplyOf, heldOf};
 ghost use Rattle.host.specs.Boundary.{Holds};
 
-fn hold_timer(t: RefreshTimer) -> HeldTimer
+pub(crate) fn hold_timer(t: RefreshTimer) -> HeldTimer
     ensures { λ r. ⌜ r ≡ heldTimer t ⌝ }
 {
     HeldTimer {
@@ -65,11 +66,11 @@ fn hold_links(t: Interfaces) -> HeldLinks
     }
 }
 
-fn hold_search(s: ActiveSearch) -> HeldSearch
+fn hold_search(s: ActiveSearch) -> HeldType
     ensures { λ r. ⌜ r ≡ heldSearch s ⌝ }
 {
     let kind = s.kind;
-    HeldSearch {
+    HeldType {
         kind: kind,
         kind_len: s.kind_len,
     }
@@ -93,18 +94,10 @@ fn hold_searches(t: ActiveSearches) -> HeldSearches
 }
 
 // A waiting reply in numbers.
-struct HeldNeeded {
-    due: u64,
-    sender: u32,
-    receiver: u32,
-    port: u16,
-    needed: u8,
-}
-
-fn lone_needed(due: u64, sender: Endpoint, receiver: u32) -> HeldNeeded
-    ensures { λ r. ⌜ r ≡ heldWait (Unicast due sender receiver) ⌝ }
+fn hold_lone(due: u64, sender: Endpoint, receiver: u32) -> HeldReply
+    ensures { λ r. ⌜ r ≡ heldReply (Unicast due sender receiver) ⌝ }
 {
-    HeldNeeded {
+    HeldReply {
         due: due,
         sender: sender.address,
         receiver: receiver,
@@ -113,56 +106,70 @@ fn lone_needed(due: u64, sender: Endpoint, receiver: u32) -> HeldNeeded
     }
 }
 
-fn hold_needed(n: ResponseNeeded) -> HeldNeeded
-    ensures { λ r. ⌜ r ≡ heldWait n ⌝ }
+pub(crate) fn hold_reply(n: ResponseNeeded) -> HeldReply
+    ensures { λ r. ⌜ r ≡ heldReply n ⌝ }
 {
     match n {
-        ResponseNeeded::None => HeldNeeded {
+        ResponseNeeded::None => HeldReply {
             due: 0,
             sender: 0,
             receiver: 0,
             port: 0,
             needed: 0,
         },
-        ResponseNeeded::Multicast(due) => HeldNeeded {
+        ResponseNeeded::Multicast(due) => HeldReply {
             due: due,
             sender: 0,
             receiver: 0,
             port: 0,
             needed: 1,
         },
-        ResponseNeeded::Unicast(due, sender, receiver) => lone_needed(due, sender, receiver),
+        ResponseNeeded::Unicast(due, sender, receiver) => hold_lone(due, sender, receiver),
     }
 }
 
-fn hold_advertisement(a: ActiveAdvertisement) -> HeldAdvertisement
-    ensures { λ r. ⌜ r ≡ heldAdvertisement a ⌝ }
+fn hold_name(a: ActiveAdvertisement) -> HeldName
+    ensures { λ r. ⌜ r ≡ heldName a ⌝ }
 {
     let name = a.name;
-    let kind = a.kind;
     let location = a.location;
-    let answer = a.answer;
-    let response_needed = a.response_needed;
-    let n = hold_needed(response_needed);
-    HeldAdvertisement {
+    HeldName {
         name: name,
         name_len: a.name_len,
-        kind: kind,
-        kind_len: a.kind_len,
         location: location,
         location_len: a.location_len,
-        answer: answer,
-        answer_len: a.answer_len,
-        due: n.due,
-        sender: n.sender,
-        receiver: n.receiver,
-        port: n.port,
-        needed: n.needed,
     }
 }
 
-fn hold_advertisements(t: Advertisements) -> HeldAdvertisements
-    ensures { λ r. ⌜ r ≡ heldAdvertisements t ⌝ }
+fn hold_kind(a: ActiveAdvertisement) -> HeldType
+    ensures { λ r. ⌜ r ≡ heldKind a ⌝ }
+{
+    let kind = a.kind;
+    HeldType {
+        kind: kind,
+        kind_len: a.kind_len,
+    }
+}
+
+fn hold_answer_type(a: ActiveAdvertisement) -> HeldType
+    ensures { λ r. ⌜ r ≡ heldAnswerType a ⌝ }
+{
+    let answer = a.answer;
+    HeldType {
+        kind: answer,
+        kind_len: a.answer_len,
+    }
+}
+
+fn hold_reply_of(a: ActiveAdvertisement) -> HeldReply
+    ensures { λ r. ⌜ r ≡ heldReplyOf a ⌝ }
+{
+    let needed = a.response_needed;
+    hold_reply(needed)
+}
+
+fn hold_names(t: Advertisements) -> [HeldName; 8]
+    ensures { λ r. ⌜ r ≡ map heldName (t .slots) ⌝ }
 {
     let s0 = t.slots[0];
     let s1 = t.slots[1];
@@ -172,18 +179,81 @@ fn hold_advertisements(t: Advertisements) -> HeldAdvertisements
     let s5 = t.slots[5];
     let s6 = t.slots[6];
     let s7 = t.slots[7];
-    let a0 = hold_advertisement(s0);
-    let a1 = hold_advertisement(s1);
-    let a2 = hold_advertisement(s2);
-    let a3 = hold_advertisement(s3);
-    let a4 = hold_advertisement(s4);
-    let a5 = hold_advertisement(s5);
-    let a6 = hold_advertisement(s6);
-    let a7 = hold_advertisement(s7);
-    HeldAdvertisements {
-        count: t.count,
-        slots: [a0, a1, a2, a3, a4, a5, a6, a7],
-    }
+    let a0 = hold_name(s0);
+    let a1 = hold_name(s1);
+    let a2 = hold_name(s2);
+    let a3 = hold_name(s3);
+    let a4 = hold_name(s4);
+    let a5 = hold_name(s5);
+    let a6 = hold_name(s6);
+    let a7 = hold_name(s7);
+    [a0, a1, a2, a3, a4, a5, a6, a7]
+}
+
+fn hold_kinds(t: Advertisements) -> [HeldType; 8]
+    ensures { λ r. ⌜ r ≡ map heldKind (t .slots) ⌝ }
+{
+    let s0 = t.slots[0];
+    let s1 = t.slots[1];
+    let s2 = t.slots[2];
+    let s3 = t.slots[3];
+    let s4 = t.slots[4];
+    let s5 = t.slots[5];
+    let s6 = t.slots[6];
+    let s7 = t.slots[7];
+    let a0 = hold_kind(s0);
+    let a1 = hold_kind(s1);
+    let a2 = hold_kind(s2);
+    let a3 = hold_kind(s3);
+    let a4 = hold_kind(s4);
+    let a5 = hold_kind(s5);
+    let a6 = hold_kind(s6);
+    let a7 = hold_kind(s7);
+    [a0, a1, a2, a3, a4, a5, a6, a7]
+}
+
+fn hold_answer_types(t: Advertisements) -> [HeldType; 8]
+    ensures { λ r. ⌜ r ≡ map heldAnswerType (t .slots) ⌝ }
+{
+    let s0 = t.slots[0];
+    let s1 = t.slots[1];
+    let s2 = t.slots[2];
+    let s3 = t.slots[3];
+    let s4 = t.slots[4];
+    let s5 = t.slots[5];
+    let s6 = t.slots[6];
+    let s7 = t.slots[7];
+    let a0 = hold_answer_type(s0);
+    let a1 = hold_answer_type(s1);
+    let a2 = hold_answer_type(s2);
+    let a3 = hold_answer_type(s3);
+    let a4 = hold_answer_type(s4);
+    let a5 = hold_answer_type(s5);
+    let a6 = hold_answer_type(s6);
+    let a7 = hold_answer_type(s7);
+    [a0, a1, a2, a3, a4, a5, a6, a7]
+}
+
+fn hold_replies(t: Advertisements) -> [HeldReply; 8]
+    ensures { λ r. ⌜ r ≡ map heldReplyOf (t .slots) ⌝ }
+{
+    let s0 = t.slots[0];
+    let s1 = t.slots[1];
+    let s2 = t.slots[2];
+    let s3 = t.slots[3];
+    let s4 = t.slots[4];
+    let s5 = t.slots[5];
+    let s6 = t.slots[6];
+    let s7 = t.slots[7];
+    let a0 = hold_reply_of(s0);
+    let a1 = hold_reply_of(s1);
+    let a2 = hold_reply_of(s2);
+    let a3 = hold_reply_of(s3);
+    let a4 = hold_reply_of(s4);
+    let a5 = hold_reply_of(s5);
+    let a6 = hold_reply_of(s6);
+    let a7 = hold_reply_of(s7);
+    [a0, a1, a2, a3, a4, a5, a6, a7]
 }
 
 // What the host is to hold for an engine.
@@ -197,13 +267,20 @@ pub fn hold(e: Engine) -> HeldEngine
     let refresh_timer = hold_timer(timer);
     let interfaces = hold_links(links);
     let active_searches = hold_searches(searches);
-    let advertisements = hold_advertisements(table);
+    let names = hold_names(table);
+    let kinds = hold_kinds(table);
+    let answers = hold_answer_types(table);
+    let replies = hold_replies(table);
     HeldEngine {
         random_seed: e.random_seed,
         refresh_timer: refresh_timer,
         interfaces: interfaces,
         active_searches: active_searches,
-        advertisements: advertisements,
+        count: table.count,
+        kinds: kinds,
+        answers: answers,
+        replies: replies,
+        names: names,
     }
 }
 

@@ -1,13 +1,13 @@
 // The engine that the host's numbers stand for: opened on entry of each call. Tables are written out slot by slot, which compiles to
 // far less copying than a loop over a local array.
-use crate::held::HeldAdvertisement;
-use crate::held::HeldAdvertisements;
 use crate::held::HeldEngine;
 use crate::held::HeldLink;
 use crate::held::HeldLinks;
-use crate::held::HeldSearch;
+use crate::held::HeldName;
+use crate::held::HeldReply;
 use crate::held::HeldSearches;
 use crate::held::HeldTimer;
+use crate::held::HeldType;
 use engine::advertisement::ActiveAdvertisement;
 use engine::advertisement::Advertisements;
 use engine::advertisement::Endpoint;
@@ -19,9 +19,9 @@ use engine::refresh_timer::RefreshTimer;
 use engine::subscription::ActiveSearch;
 use engine::subscription::ActiveSearches;
 ghost use mathlib.Core.Path.{_≡_};
-ghost use Rattle.host.specs.Held.{timerOf, linkOf, linksOf, searchOf, searchesOf, neededOf, advertisementOf, advertisementsOf, engineOf};
+ghost use Rattle.host.specs.Held.{timerOf, linkOf, linksOf, searchOf, searchesOf, replyOf, advertisementOf, tableOf, engineOf};
 
-fn open_timer(t: HeldTimer) -> RefreshTimer
+pub(crate) fn open_timer(t: HeldTimer) -> RefreshTimer
     ensures { λ r. ⌜ r ≡ timerOf t ⌝ }
 {
     RefreshTimer {
@@ -43,7 +43,7 @@ fn open_link(l: HeldLink) -> Interface
     }
 }
 
-fn open_links(t: HeldLinks) -> Interfaces
+pub(crate) fn open_links(t: HeldLinks) -> Interfaces
     ensures { λ r. ⌜ r ≡ linksOf t ⌝ }
 {
     let s0 = t.slots[0];
@@ -58,7 +58,7 @@ fn open_links(t: HeldLinks) -> Interfaces
     }
 }
 
-fn open_search(s: HeldSearch) -> ActiveSearch
+fn open_search(s: HeldType) -> ActiveSearch
     ensures { λ r. ⌜ r ≡ searchOf s ⌝ }
 {
     let kind = s.kind;
@@ -68,7 +68,7 @@ fn open_search(s: HeldSearch) -> ActiveSearch
     }
 }
 
-fn open_searches(t: HeldSearches) -> ActiveSearches
+pub(crate) fn open_searches(t: HeldSearches) -> ActiveSearches
     ensures { λ r. ⌜ r ≡ searchesOf t ⌝ }
 {
     let s0 = t.slots[0];
@@ -86,8 +86,8 @@ fn open_searches(t: HeldSearches) -> ActiveSearches
 }
 
 // The waiting reply.
-fn open_needed(a: HeldAdvertisement) -> ResponseNeeded
-    ensures { λ r. ⌜ r ≡ neededOf a ⌝ }
+pub(crate) fn open_reply(a: HeldReply) -> ResponseNeeded
+    ensures { λ r. ⌜ r ≡ replyOf a ⌝ }
 {
     let needed = a.needed;
     if needed == 1 {
@@ -103,48 +103,78 @@ fn open_needed(a: HeldAdvertisement) -> ResponseNeeded
     ResponseNeeded::None
 }
 
-fn open_advertisement(a: HeldAdvertisement) -> ActiveAdvertisement
-    ensures { λ r. ⌜ r ≡ advertisementOf a ⌝ }
+fn open_advertisement(n: HeldName, k: HeldType, w: HeldType, a: HeldReply) -> ActiveAdvertisement
+    ensures { λ r. ⌜ r ≡ advertisementOf n k w a ⌝ }
 {
-    let name = a.name;
-    let kind = a.kind;
-    let location = a.location;
-    let answer = a.answer;
-    let needed = open_needed(a);
+    let name = n.name;
+    let kind = k.kind;
+    let location = n.location;
+    let answer = w.kind;
+    let needed = open_reply(a);
     ActiveAdvertisement {
         name: name,
-        name_len: a.name_len,
+        name_len: n.name_len,
         kind: kind,
-        kind_len: a.kind_len,
+        kind_len: k.kind_len,
         location: location,
-        location_len: a.location_len,
+        location_len: n.location_len,
         response_needed: needed,
         answer: answer,
-        answer_len: a.answer_len,
+        answer_len: w.kind_len,
     }
 }
 
-fn open_advertisements(t: HeldAdvertisements) -> Advertisements
-    ensures { λ r. ⌜ r ≡ advertisementsOf t ⌝ }
+pub(crate) fn open_advertisements(
+    count: usize,
+    names: [HeldName; 8],
+    kinds: [HeldType; 8],
+    answers: [HeldType; 8],
+    replies: [HeldReply; 8],
+) -> Advertisements
+    ensures { λ r. ⌜ r ≡ tableOf count names kinds answers replies ⌝ }
 {
-    let s0 = t.slots[0];
-    let s1 = t.slots[1];
-    let s2 = t.slots[2];
-    let s3 = t.slots[3];
-    let s4 = t.slots[4];
-    let s5 = t.slots[5];
-    let s6 = t.slots[6];
-    let s7 = t.slots[7];
-    let a0 = open_advertisement(s0);
-    let a1 = open_advertisement(s1);
-    let a2 = open_advertisement(s2);
-    let a3 = open_advertisement(s3);
-    let a4 = open_advertisement(s4);
-    let a5 = open_advertisement(s5);
-    let a6 = open_advertisement(s6);
-    let a7 = open_advertisement(s7);
+    let n0 = names[0];
+    let k0 = kinds[0];
+    let w0 = answers[0];
+    let r0 = replies[0];
+    let n1 = names[1];
+    let k1 = kinds[1];
+    let w1 = answers[1];
+    let r1 = replies[1];
+    let n2 = names[2];
+    let k2 = kinds[2];
+    let w2 = answers[2];
+    let r2 = replies[2];
+    let n3 = names[3];
+    let k3 = kinds[3];
+    let w3 = answers[3];
+    let r3 = replies[3];
+    let n4 = names[4];
+    let k4 = kinds[4];
+    let w4 = answers[4];
+    let r4 = replies[4];
+    let n5 = names[5];
+    let k5 = kinds[5];
+    let w5 = answers[5];
+    let r5 = replies[5];
+    let n6 = names[6];
+    let k6 = kinds[6];
+    let w6 = answers[6];
+    let r6 = replies[6];
+    let n7 = names[7];
+    let k7 = kinds[7];
+    let w7 = answers[7];
+    let r7 = replies[7];
+    let a0 = open_advertisement(n0, k0, w0, r0);
+    let a1 = open_advertisement(n1, k1, w1, r1);
+    let a2 = open_advertisement(n2, k2, w2, r2);
+    let a3 = open_advertisement(n3, k3, w3, r3);
+    let a4 = open_advertisement(n4, k4, w4, r4);
+    let a5 = open_advertisement(n5, k5, w5, r5);
+    let a6 = open_advertisement(n6, k6, w6, r6);
+    let a7 = open_advertisement(n7, k7, w7, r7);
     Advertisements {
-        count: t.count,
+        count: count,
         slots: [a0, a1, a2, a3, a4, a5, a6, a7],
     }
 }
@@ -156,11 +186,14 @@ pub fn open(h: HeldEngine) -> Engine
     let timer = h.refresh_timer;
     let links = h.interfaces;
     let searches = h.active_searches;
-    let table = h.advertisements;
+    let names = h.names;
+    let kinds = h.kinds;
+    let answers = h.answers;
+    let replies = h.replies;
     let refresh_timer = open_timer(timer);
     let interfaces = open_links(links);
     let active_searches = open_searches(searches);
-    let advertisements = open_advertisements(table);
+    let advertisements = open_advertisements(h.count, names, kinds, answers, replies);
     Engine {
         random_seed: h.random_seed,
         refresh_timer: refresh_timer,

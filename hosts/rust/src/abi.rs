@@ -12,7 +12,11 @@ pub struct HeldEngine {
     timer: HeldTimer,
     interfaces: HeldLinks,
     active_searches: HeldSearches,
-    advertisements: HeldAdvertisements,
+    count: usize,
+    kinds: [HeldType; 8],
+    answers: [HeldType; 8],
+    replies: [HeldReply; 8],
+    names: [HeldName; 8],
 }
 
 #[repr(C)]
@@ -41,7 +45,7 @@ struct HeldLinks {
 
 #[repr(C)]
 #[derive(Clone, Copy)]
-struct HeldSearch {
+struct HeldType {
     kind: [u8; 80],
     kind_len: usize,
 }
@@ -50,20 +54,12 @@ struct HeldSearch {
 #[derive(Clone)]
 struct HeldSearches {
     count: usize,
-    slots: [HeldSearch; 4],
+    slots: [HeldType; 4],
 }
 
 #[repr(C)]
 #[derive(Clone, Copy)]
-struct HeldAdvertisement {
-    name: [u8; 128],
-    name_len: usize,
-    kind: [u8; 80],
-    kind_len: usize,
-    location: [u8; 120],
-    location_len: usize,
-    answer: [u8; 80],
-    answer_len: usize,
+struct HeldReply {
     due: u64,
     sender: u32,
     receiver: u32,
@@ -72,10 +68,12 @@ struct HeldAdvertisement {
 }
 
 #[repr(C)]
-#[derive(Clone)]
-struct HeldAdvertisements {
-    count: usize,
-    slots: [HeldAdvertisement; 8],
+#[derive(Clone, Copy)]
+struct HeldName {
+    name: [u8; 128],
+    name_len: usize,
+    location: [u8; 120],
+    location_len: usize,
 }
 
 impl HeldEngine {
@@ -84,27 +82,17 @@ impl HeldEngine {
         random_seed: 0,
         timer: HeldTimer { random_seed: 0, next_salvo: 0, phase: 0 },
         interfaces: HeldLinks { count: 0, slots: [HeldLink { index: 0, up: 0, count: 0, addresses: [0; 2] }; 3] },
-        active_searches: HeldSearches { count: 0, slots: [HeldSearch { kind: [0; 80], kind_len: 0 }; 4] },
-        advertisements: HeldAdvertisements { count: 0, slots: [HeldAdvertisement::BLANK; 8] },
+        active_searches: HeldSearches { count: 0, slots: [HeldType::BLANK; 4] },
+        count: 0,
+        kinds: [HeldType::BLANK; 8],
+        answers: [HeldType::BLANK; 8],
+        replies: [HeldReply { due: 0, sender: 0, receiver: 0, port: 0, needed: 0 }; 8],
+        names: [HeldName { name: [0; 128], name_len: 0, location: [0; 120], location_len: 0 }; 8],
     };
 }
 
-impl HeldAdvertisement {
-    const BLANK: HeldAdvertisement = HeldAdvertisement {
-        name: [0; 128],
-        name_len: 0,
-        kind: [0; 80],
-        kind_len: 0,
-        location: [0; 120],
-        location_len: 0,
-        answer: [0; 80],
-        answer_len: 0,
-        due: 0,
-        sender: 0,
-        receiver: 0,
-        port: 0,
-        needed: 0,
-    };
+impl HeldType {
+    const BLANK: HeldType = HeldType { kind: [0; 80], kind_len: 0 };
 }
 
 #[repr(C)]
@@ -294,13 +282,13 @@ mod tests {
         assert_eq!((e.active_searches.count, &other.kind[..5], other.kind_len), (2, &b"other"[..], 5));
         advertise(&mut e, b"name", b"t:2", b"location", &mut outbox);
         on_data(&mut e, 100, 0x0a00_0009, 5000, 0x0a00_0001, b"M-SEARCH * HTTP/1.1\nST: t:01\nMX: 1\n");
-        let held = e.advertisements.slots[0];
-        assert_eq!((e.advertisements.count, &held.name[..4], held.name_len), (1, &b"name"[..], 4));
-        assert_eq!((&held.kind[..3], held.kind_len, &held.location[..8], held.location_len), (&b"t:2"[..], 3, &b"location"[..], 8));
-        assert_eq!((&held.answer[..4], held.answer_len), (&b"t:01"[..], 4));
+        let (held, kind, answer, reply) = (e.names[0], e.kinds[0], e.answers[0], e.replies[0]);
+        assert_eq!((e.count, &held.name[..4], held.name_len), (1, &b"name"[..], 4));
+        assert_eq!((&kind.kind[..3], kind.kind_len, &held.location[..8], held.location_len), (&b"t:2"[..], 3, &b"location"[..], 8));
+        assert_eq!((&answer.kind[..4], answer.kind_len), (&b"t:01"[..], 4));
         let due = 100 + 10 + 0x0102_0304 % 1000;
-        assert_eq!((held.due, held.sender, held.receiver, held.port), (due, 0x0a00_0009, 0x0a00_0001, 5000));
-        assert_ne!(held.needed, 0);
+        assert_eq!((reply.due, reply.sender, reply.receiver, reply.port), (due, 0x0a00_0009, 0x0a00_0001, 5000));
+        assert_ne!(reply.needed, 0);
     }
 
     /// Any bytes are an engine: every call comes back, reports at most 120 records and writes nothing behind the outbox.
@@ -317,13 +305,14 @@ mod tests {
             held.iter_mut().for_each(|byte| *byte = roll());
             // Counts and lengths that are in their bounds, too.
             if round % 2 == 0 {
-                (e.interfaces.count, e.active_searches.count, e.advertisements.count) = (3, 4, 8);
+                (e.interfaces.count, e.active_searches.count, e.count) = (3, 4, 8);
                 e.interfaces.slots.iter_mut().for_each(|link| link.count = 2);
-                e.advertisements.slots.iter_mut().for_each(|held| (held.name_len, held.needed) = (128, roll() % 3));
+                e.names.iter_mut().for_each(|held| held.name_len = 128);
+                e.replies.iter_mut().for_each(|reply| reply.needed = roll() % 3);
             }
             let (outbox, behind) = bytes.split_at_mut(62_880);
             let index = e.interfaces.slots[0].index;
-            let name = e.advertisements.slots[0].name;
+            let name = e.names[0].name;
             let answers = [
                 new_link(&mut e, index, 0x1041, 0, outbox),
                 new_address(&mut e, index, &name[..4], outbox),
@@ -349,8 +338,9 @@ mod tests {
         let mut source = String::from("#include <kohlsilk.h>\n");
         let mut claim = |what: &str, value: usize| source += &format!("_Static_assert({what} == {value}, \"{what}\");\n");
         claim("sizeof(struct kohlsilk_engine)", size_of::<HeldEngine>());
-        claim("sizeof(struct kohlsilk_advertisement)", size_of::<HeldAdvertisement>());
-        claim("sizeof(struct kohlsilk_search)", size_of::<HeldSearch>());
+        claim("sizeof(struct kohlsilk_name)", size_of::<HeldName>());
+        claim("sizeof(struct kohlsilk_reply)", size_of::<HeldReply>());
+        claim("sizeof(struct kohlsilk_type)", size_of::<HeldType>());
         claim("sizeof(struct kohlsilk_link)", size_of::<HeldLink>());
         claim("sizeof(struct kohlsilk_timer)", size_of::<HeldTimer>());
         claim("sizeof(struct kohlsilk_answer)", size_of::<HeldAnswer>());
@@ -358,9 +348,13 @@ mod tests {
         claim("sizeof(struct kohlsilk_written)", size_of::<Written>());
         claim("offsetof(struct kohlsilk_engine, interfaces)", offset_of!(HeldEngine, interfaces));
         claim("offsetof(struct kohlsilk_engine, active_searches)", offset_of!(HeldEngine, active_searches));
-        claim("offsetof(struct kohlsilk_engine, advertisements)", offset_of!(HeldEngine, advertisements));
-        claim("offsetof(struct kohlsilk_advertisement, due)", offset_of!(HeldAdvertisement, due));
-        claim("offsetof(struct kohlsilk_advertisement, needed)", offset_of!(HeldAdvertisement, needed));
+        claim("offsetof(struct kohlsilk_engine, count)", offset_of!(HeldEngine, count));
+        claim("offsetof(struct kohlsilk_engine, kinds)", offset_of!(HeldEngine, kinds));
+        claim("offsetof(struct kohlsilk_engine, answers)", offset_of!(HeldEngine, answers));
+        claim("offsetof(struct kohlsilk_engine, replies)", offset_of!(HeldEngine, replies));
+        claim("offsetof(struct kohlsilk_engine, names)", offset_of!(HeldEngine, names));
+        claim("offsetof(struct kohlsilk_name, location)", offset_of!(HeldName, location));
+        claim("offsetof(struct kohlsilk_reply, needed)", offset_of!(HeldReply, needed));
         claim("offsetof(struct kohlsilk_answer, poll)", offset_of!(HeldAnswer, poll));
         claim("offsetof(struct kohlsilk_answer, leave)", offset_of!(HeldAnswer, leave));
         claim("KOHLSILK_OUTBOX", crate::OUTBOX_SIZE);

@@ -13,11 +13,28 @@ hold-links-requires c κs = search needs
 hold-searches-requires : tie.Need-hold-searches-requires
 hold-searches-requires c κs = search needs
 
-hold-advertisements-requires : tie.Need-hold-advertisements-requires
-hold-advertisements-requires c κs = search needs
+hold-names-requires : tie.Need-hold-names-requires
+hold-names-requires c κs = search needs
+
+hold-kinds-requires : tie.Need-hold-kinds-requires
+hold-kinds-requires c κs = search needs
+
+hold-answer-types-requires : tie.Need-hold-answer-types-requires
+hold-answer-types-requires c κs = search needs
+
+hold-replies-requires : tie.Need-hold-replies-requires
+hold-replies-requires c κs = search needs
 
 returns : tie.Need-returns
-returns c = held-whole _ (c .before .before .before .hold-timer .ensures) (c .before .before .hold-links .ensures) (c .before .hold-searches .ensures) (c .hold-advertisements .ensures)
+returns c =
+    held-whole _
+    (c .before .before .before .before .before .before .hold-timer .ensures)
+    (c .before .before .before .before .before .hold-links .ensures)
+    (c .before .before .before .before .hold-searches .ensures)
+    (c .before .before .before .hold-names .ensures)
+    (c .before .before .hold-kinds .ensures)
+    (c .before .hold-answer-types .ensures)
+    (c .hold-replies .ensures)
 
 pub hold-spec : {M : Type 1} → statement M
 hold-spec =
@@ -26,5 +43,8 @@ hold-spec =
     hold-timer-requires
     hold-links-requires
     hold-searches-requires
-    hold-advertisements-requires
+    hold-names-requires
+    hold-kinds-requires
+    hold-answer-types-requires
+    hold-replies-requires
     returns)

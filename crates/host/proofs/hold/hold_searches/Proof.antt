@@ -4,7 +4,7 @@ use mathlib.Core.List.{List}
 use native.Mathlib.Omega.{arith}
 use lib.ListN.{length, length-map}
 use borrow.Author.Needs.{needs}
-use Rattle.host.specs.declared.held.HeldSearch.{HeldSearch}
+use Rattle.host.specs.declared.held.HeldType.{HeldType}
 use Rattle.host.specs.declared.held.HeldSearches.{HeldSearches}
 use Rattle.host.specs.Holding.{heldSearch, heldSearches}
 use Rattle.host.proofs.Tables.{slot, no-more}
@@ -41,7 +41,7 @@ returns c =
     let s = c .before .before .before .before .before .before .before .before in
     let l = s .args .t1 .slots in
     let g : length l ≡ 4 = sym (length-map l _) ∙ s .good .0 .1 .1 .1 .0 .1 .0 .1 in
-    let table : List HeldSearch → HeldSearches = λ w. record { count = s .args .t1 .count; slots = w } in
+    let table : List HeldType → HeldSearches = λ w. record { count = s .args .t1 .count; slots = w } in
     ap table (slot heldSearch l 0 _ (omega arith) (c .before .before .before .hold-search .ensures) (slot heldSearch l 1 _ (omega arith) (c .before .before .hold-search2 .ensures) (slot heldSearch l 2 _ (omega arith) (c .before .hold-search3 .ensures) (slot heldSearch l 3 _ (omega arith) (c .hold-search4 .ensures) (no-more heldSearch l 4 g)))))
 
 pub hold-searches-spec : {M : Type 1} → statement M

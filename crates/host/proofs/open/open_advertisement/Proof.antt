@@ -6,11 +6,13 @@ use borrow.Author.Needs.{needs}
 use Rattle.host.proofs.open.open_advertisement.Statement.{statement}
 use Rattle.host.proofs.open.open_advertisement.Tie as tie
 
-open-needed-requires : tie.Need-open-needed-requires
-open-needed-requires c κs = search needs
+open-reply-requires : tie.Need-open-reply-requires
+open-reply-requires c κs = search needs
 
 returns : tie.Need-returns
-returns c = ap (with-wait (advertisementOf (c .before .before .before .before .before .args .a))) (c .open-needed .ensures)
+returns c =
+    let s = c .before .before .before .before .before .args in
+    ap (with-wait (advertisementOf (s .n) (s .k) (s .w) (s .a))) (c .open-reply .ensures)
 
 pub open-advertisement-spec : {M : Type 1} → statement M
-open-advertisement-spec = tie.close (tie.spec open-needed-requires returns)
+open-advertisement-spec = tie.close (tie.spec open-reply-requires returns)

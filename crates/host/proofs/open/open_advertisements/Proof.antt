@@ -1,39 +1,110 @@
 -- Slot by slot.
-use mathlib.Core.Path.{_≡_, sym, _∙_, ap}
+use mathlib.Core.Path.{_≡_, ap}
 use mathlib.Core.List.{List}
 use native.Mathlib.Omega.{arith}
-use lib.ListN.{length, length-map}
+use lib.ListN.{length}
 use borrow.Author.Needs.{needs}
 use Rattle.engine.specs.declared.advertisement.ActiveAdvertisement.{ActiveAdvertisement}
 use Rattle.engine.specs.declared.advertisement.Advertisements.{Advertisements}
-use Rattle.host.specs.Held.{advertisementOf, advertisementsOf}
-use Rattle.host.proofs.Tables.{slot, no-more}
+use Rattle.host.proofs.Tables.{parts, no-parts}
 use Rattle.host.proofs.open.open_advertisements.Statement.{statement}
 use Rattle.host.proofs.open.open_advertisements.Tie as tie
 
-element-copy-out-s0 : tie.Need-element-copy-out-s0
-element-copy-out-s0 c = search needs
+array-copy-out-n0 : tie.Need-array-copy-out-n0
+array-copy-out-n0 c = search needs
 
-element-copy-out-s1 : tie.Need-element-copy-out-s1
-element-copy-out-s1 c = search needs
+array-copy-out-k0 : tie.Need-array-copy-out-k0
+array-copy-out-k0 c = search needs
 
-element-copy-out-s2 : tie.Need-element-copy-out-s2
-element-copy-out-s2 c = search needs
+array-copy-out-w0 : tie.Need-array-copy-out-w0
+array-copy-out-w0 c = search needs
 
-element-copy-out-s3 : tie.Need-element-copy-out-s3
-element-copy-out-s3 c = search needs
+array-copy-out-r0 : tie.Need-array-copy-out-r0
+array-copy-out-r0 c = search needs
 
-element-copy-out-s4 : tie.Need-element-copy-out-s4
-element-copy-out-s4 c = search needs
+array-copy-out-n1 : tie.Need-array-copy-out-n1
+array-copy-out-n1 c = search needs
 
-element-copy-out-s5 : tie.Need-element-copy-out-s5
-element-copy-out-s5 c = search needs
+array-copy-out-k1 : tie.Need-array-copy-out-k1
+array-copy-out-k1 c = search needs
 
-element-copy-out-s6 : tie.Need-element-copy-out-s6
-element-copy-out-s6 c = search needs
+array-copy-out-w1 : tie.Need-array-copy-out-w1
+array-copy-out-w1 c = search needs
 
-element-copy-out-s7 : tie.Need-element-copy-out-s7
-element-copy-out-s7 c = search needs
+array-copy-out-r1 : tie.Need-array-copy-out-r1
+array-copy-out-r1 c = search needs
+
+array-copy-out-n2 : tie.Need-array-copy-out-n2
+array-copy-out-n2 c = search needs
+
+array-copy-out-k2 : tie.Need-array-copy-out-k2
+array-copy-out-k2 c = search needs
+
+array-copy-out-w2 : tie.Need-array-copy-out-w2
+array-copy-out-w2 c = search needs
+
+array-copy-out-r2 : tie.Need-array-copy-out-r2
+array-copy-out-r2 c = search needs
+
+array-copy-out-n3 : tie.Need-array-copy-out-n3
+array-copy-out-n3 c = search needs
+
+array-copy-out-k3 : tie.Need-array-copy-out-k3
+array-copy-out-k3 c = search needs
+
+array-copy-out-w3 : tie.Need-array-copy-out-w3
+array-copy-out-w3 c = search needs
+
+array-copy-out-r3 : tie.Need-array-copy-out-r3
+array-copy-out-r3 c = search needs
+
+array-copy-out-n4 : tie.Need-array-copy-out-n4
+array-copy-out-n4 c = search needs
+
+array-copy-out-k4 : tie.Need-array-copy-out-k4
+array-copy-out-k4 c = search needs
+
+array-copy-out-w4 : tie.Need-array-copy-out-w4
+array-copy-out-w4 c = search needs
+
+array-copy-out-r4 : tie.Need-array-copy-out-r4
+array-copy-out-r4 c = search needs
+
+array-copy-out-n5 : tie.Need-array-copy-out-n5
+array-copy-out-n5 c = search needs
+
+array-copy-out-k5 : tie.Need-array-copy-out-k5
+array-copy-out-k5 c = search needs
+
+array-copy-out-w5 : tie.Need-array-copy-out-w5
+array-copy-out-w5 c = search needs
+
+array-copy-out-r5 : tie.Need-array-copy-out-r5
+array-copy-out-r5 c = search needs
+
+array-copy-out-n6 : tie.Need-array-copy-out-n6
+array-copy-out-n6 c = search needs
+
+array-copy-out-k6 : tie.Need-array-copy-out-k6
+array-copy-out-k6 c = search needs
+
+array-copy-out-w6 : tie.Need-array-copy-out-w6
+array-copy-out-w6 c = search needs
+
+array-copy-out-r6 : tie.Need-array-copy-out-r6
+array-copy-out-r6 c = search needs
+
+array-copy-out-n7 : tie.Need-array-copy-out-n7
+array-copy-out-n7 c = search needs
+
+array-copy-out-k7 : tie.Need-array-copy-out-k7
+array-copy-out-k7 c = search needs
+
+array-copy-out-w7 : tie.Need-array-copy-out-w7
+array-copy-out-w7 c = search needs
+
+array-copy-out-r7 : tie.Need-array-copy-out-r7
+array-copy-out-r7 c = search needs
 
 open-advertisement-requires : tie.Need-open-advertisement-requires
 open-advertisement-requires c κs = search needs
@@ -60,13 +131,18 @@ open-advertisement-requires-8 : tie.Need-open-advertisement-requires-8
 open-advertisement-requires-8 c κs = search needs
 
 returns : tie.Need-returns
-unfolding advertisementsOf
 returns c =
-    let s = c .before .before .before .before .before .before .before .before .before .before .before .before .before .before .before .before in
-    let l = s .args .t1 .slots in
-    let g : length l ≡ 8 = sym (length-map l _) ∙ s .good .0 .1 .1 .1 .0 .1 .0 .1 in
-    let table : List ActiveAdvertisement → Advertisements = λ w. record { count = s .args .t1 .count; slots = w } in
-    ap table (slot advertisementOf l 0 _ (omega arith) (c .before .before .before .before .before .before .before .open-advertisement .ensures) (slot advertisementOf l 1 _ (omega arith) (c .before .before .before .before .before .before .open-advertisement2 .ensures) (slot advertisementOf l 2 _ (omega arith) (c .before .before .before .before .before .open-advertisement3 .ensures) (slot advertisementOf l 3 _ (omega arith) (c .before .before .before .before .open-advertisement4 .ensures) (slot advertisementOf l 4 _ (omega arith) (c .before .before .before .open-advertisement5 .ensures) (slot advertisementOf l 5 _ (omega arith) (c .before .before .open-advertisement6 .ensures) (slot advertisementOf l 6 _ (omega arith) (c .before .open-advertisement7 .ensures) (slot advertisementOf l 7 _ (omega arith) (c .open-advertisement8 .ensures) (no-more advertisementOf l 8 g)))))))))
+    let s = c .before .before .before .before .before .before .before .before .before .before .before .before .before .before .before .before .before .before .before .before .before .before .before .before .before .before .before .before .before .before .before .before .before .before .before .before .before .before .before .before in
+    let n = s .args .t2 in
+    let gn : length n ≡ 8 = s .good .1 .0 .1 .0 .1 in
+    let k = s .args .t3 in
+    let gk : length k ≡ 8 = s .good .1 .1 .0 .1 .0 .1 in
+    let w = s .args .t4 in
+    let gw : length w ≡ 8 = s .good .1 .1 .1 .0 .1 .0 .1 in
+    let r = s .args .t5 in
+    let gr : length r ≡ 8 = s .good .1 .1 .1 .1 .0 .1 .0 .1 in
+    let table : List ActiveAdvertisement → Advertisements = λ w. record { count = s .args .count; slots = w } in
+    ap table (parts n k w r 8 gn gk gw gr 0 _ _ _ _ (omega arith) (c .before .before .before .before .before .before .before .open-advertisement .ensures) (parts n k w r 8 gn gk gw gr 1 _ _ _ _ (omega arith) (c .before .before .before .before .before .before .open-advertisement2 .ensures) (parts n k w r 8 gn gk gw gr 2 _ _ _ _ (omega arith) (c .before .before .before .before .before .open-advertisement3 .ensures) (parts n k w r 8 gn gk gw gr 3 _ _ _ _ (omega arith) (c .before .before .before .before .open-advertisement4 .ensures) (parts n k w r 8 gn gk gw gr 4 _ _ _ _ (omega arith) (c .before .before .before .open-advertisement5 .ensures) (parts n k w r 8 gn gk gw gr 5 _ _ _ _ (omega arith) (c .before .before .open-advertisement6 .ensures) (parts n k w r 8 gn gk gw gr 6 _ _ _ _ (omega arith) (c .before .open-advertisement7 .ensures) (parts n k w r 8 gn gk gw gr 7 _ _ _ _ (omega arith) (c .open-advertisement8 .ensures) (no-parts n k w r 8 gn gk gw gr)))))))))
 
 pub open-advertisements-spec : {M : Type 1} → statement M
-open-advertisements-spec = tie.close (tie.spec element-copy-out-s0 element-copy-out-s1 element-copy-out-s2 element-copy-out-s3 element-copy-out-s4 element-copy-out-s5 element-copy-out-s6 element-copy-out-s7 open-advertisement-requires open-advertisement-requires-2 open-advertisement-requires-3 open-advertisement-requires-4 open-advertisement-requires-5 open-advertisement-requires-6 open-advertisement-requires-7 open-advertisement-requires-8 returns)
+open-advertisements-spec = tie.close (tie.spec array-copy-out-n0 array-copy-out-k0 array-copy-out-w0 array-copy-out-r0 array-copy-out-n1 array-copy-out-k1 array-copy-out-w1 array-copy-out-r1 array-copy-out-n2 array-copy-out-k2 array-copy-out-w2 array-copy-out-r2 array-copy-out-n3 array-copy-out-k3 array-copy-out-w3 array-copy-out-r3 array-copy-out-n4 array-copy-out-k4 array-copy-out-w4 array-copy-out-r4 array-copy-out-n5 array-copy-out-k5 array-copy-out-w5 array-copy-out-r5 array-copy-out-n6 array-copy-out-k6 array-copy-out-w6 array-copy-out-r6 array-copy-out-n7 array-copy-out-k7 array-copy-out-w7 array-copy-out-r7 open-advertisement-requires open-advertisement-requires-2 open-advertisement-requires-3 open-advertisement-requires-4 open-advertisement-requires-5 open-advertisement-requires-6 open-advertisement-requires-7 open-advertisement-requires-8 returns)

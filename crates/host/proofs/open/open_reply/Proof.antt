@@ -1,7 +1,7 @@
 -- Each return goes by the tests passed.
 use borrow.Author.Tests.{eq-eqb, ne-eqb}
-use Rattle.host.proofs.open.open_needed.Statement.{statement}
-use Rattle.host.proofs.open.open_needed.Tie as tie
+use Rattle.host.proofs.open.open_reply.Statement.{statement}
+use Rattle.host.proofs.open.open_reply.Tie as tie
 
 returns : tie.Need-returns
 returns c = simp (eq-eqb _ _ (c .if1 .taken))
@@ -12,5 +12,5 @@ returns-2 c = simp (ne-eqb _ _ (c .before .if1 .left), eq-eqb _ _ (c .if2 .taken
 returns-3 : tie.Need-returns-3
 returns-3 c = simp (ne-eqb _ _ (c .before .if1 .left), ne-eqb _ _ (c .if2 .left))
 
-pub open-needed-spec : {M : Type 1} → statement M
-open-needed-spec = tie.close (tie.spec returns returns-2 returns-3)
+pub open-reply-spec : {M : Type 1} → statement M
+open-reply-spec = tie.close (tie.spec returns returns-2 returns-3)

@@ -2,13 +2,13 @@
 use mathlib.Core.Path.{_≡_, refl, sym, _∙_, ap}
 use mathlib.Core.Bool.{Bool, true, false, cond, _&&_}
 use mathlib.Core.List.{List, [], _∷_, _++_}
-use Prim.Native.Nat.{ℕ, zero, suc, _+_, _-_, _≤_, _<_}
+use Prim.Native.Nat.{ℕ, zero, suc, _+_, _-_, _≤_}
 use native.Mathlib.Omega.{arith}
 use lib.Dec.{ltb}
 use lib.ListN.{length, take}
 use Rattle.text.specs.Bytes.{equal, indexOf}
 use Rattle.console.specs.Field.{fieldAt}
-use Rattle.console.specs.Command.{Taking, Row, rowOf, wordIn, isReadable, handed, reads, readsAs, five, kindsOf, dataAt, listed, fed, built, readable, command}
+use Rattle.console.specs.Command.{Taking, rowOf, wordIn, isReadable, handed, reads, readsAs, five, kindsOf, dataAt, listed, fed, built, readable, command}
 use Rattle.console.specs.declared.field.Kind.{Kind}
 use Rattle.console.specs.declared.field.Kind.the-variants.{Nothing}
 use Rattle.console.specs.declared.field.Datum.{Datum}

@@ -17,7 +17,7 @@ use Rattle.console.specs.Each.{all}
 use Rattle.console.specs.Buffer.{Filled, Appends}
 use Rattle.console.specs.Input.{lineMax, ended, eventIn, noEnd, Pending, upTo, gathered, Gathers, finished}
 use Rattle.console.specs.declared.input.Event.{Event}
-use Rattle.console.specs.declared.input.Event.the-variants.{More, Line, TooLong}
+use Rattle.console.specs.declared.input.Event.the-variants.{More}
 
 -- a test of each byte, of parts
 module _ (f : ℕ → Bool) where

@@ -10,7 +10,6 @@ use lib.ListN.{length, take, drop, take-append-drop}
 use lib.Seq.{take-all, take-take}
 use Rattle.text.specs.Bytes.{indexOf}
 use Rattle.text.specs.Lines.{lines, bare}
-use Rattle.text.proofs.Finding.{indexOf-le}
 use Rattle.text.proofs.FirstLine.{bare-front}
 use Rattle.console.specs.Each.{all}
 use Rattle.console.specs.Buffer.{Filled}

@@ -1,9 +1,8 @@
 -- Laws of what is done for each byte of a text: a loop's turn adds what it does for one byte more, or looks at one byte less.
-use mathlib.Core.Path.{_≡_, refl, sym, _∙_, ap}
-use mathlib.Core.Bool.{Bool, true, false, _&&_, and-eq-true-iff}
+use mathlib.Core.Path.{_≡_, sym, _∙_, ap}
+use mathlib.Core.Bool.{Bool, true, false, and-eq-true-iff}
 use mathlib.Core.List.{List, [], _∷_, _++_, append-assoc, append-nil}
-use Prim.Native.Nat.{ℕ, suc, _+_, _≤_, _<_}
-use native.Mathlib.Omega.{arith}
+use Prim.Native.Nat.{ℕ, _+_, _≤_, _<_}
 use native.Mathlib.Numerals.{add-one}
 use borrow.Author.Tests.{leb-true}
 use lib.Dec.{leb}
@@ -11,7 +10,7 @@ use lib.ListN.{length, take, drop, getD, drop-of-length-le}
 use lib.Seq.{take-suc, take-all, drop-cons}
 use Rattle.text.specs.Range.{within}
 use Rattle.console.specs.Each.{each, all}
-use Rattle.console.specs.Buffer.{Filled, Appends}
+use Rattle.console.specs.Buffer.{Appends}
 use Rattle.console.proofs.Appending as appending
 
 each-snoc : (f : ℕ → List ℕ) (s : List ℕ) (x : ℕ) → each f (s ++ (x ∷ [])) ≡ each f s ++ f x

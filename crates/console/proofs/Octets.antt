@@ -1,17 +1,16 @@
 -- Laws of dotted addresses: one octet after the other, each below 256.
 use mathlib.Core.Path.{_≡_, refl, sym, _∙_, ap}
-use mathlib.Core.Bool.{Bool, true, false, cond, _&&_, _||_, and-false}
+use mathlib.Core.Bool.{true, false, _&&_, _||_, and-false}
 use mathlib.Core.List.{List, [], _∷_}
 use Prim.Native.Nat.{ℕ, zero, suc, _+_, _-_, _*_, _≤_, _<_}
 use native.Mathlib.Omega.{arith}
-use native.Mathlib.Numerals.{add-one, sub-one}
+use native.Mathlib.Numerals.{add-one}
 use borrow.Author.Tests.{lt-ltb, le-ltb}
 use lib.Dec.{eqb, ltb}
 use lib.ListN.{length, take, drop, getD}
-use lib.Seq.{drop-drop, take-all}
+use lib.Seq.{drop-drop}
 use Rattle.text.specs.Number.{number, max8}
 use Rattle.text.specs.Bytes.{indexOf}
-use Rattle.text.specs.declared.number.Number.{Number}
 use Rattle.text.specs.declared.number.Number.the-variants.{Value, Invalid}
 use Rattle.console.specs.Address.{orNone, octet, octets}
 

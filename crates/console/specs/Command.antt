@@ -1,8 +1,7 @@
 -- A line as a command (document 01, 'The session program'): the table of the words, and how a line is read by it.
 use Prim.Native.Nat.{ℕ, _+_}
-use Prim.Native.String.{String}
 use mathlib.Core.Bool.{Bool, true, false, cond, _&&_}
-use mathlib.Core.List.{List, [], _∷_, _++_}
+use mathlib.Core.List.{List, [], _∷_}
 use lib.Dec.{ltb}
 use lib.ListN.{length, take, getD}
 use Rattle.text.specs.Number.{max64}

@@ -5,7 +5,6 @@ use text::bytes;
 use text::number;
 use text::number::Number;
 ghost use mathlib.Core.Path.{_≡_};
-ghost use lib.ListN.{getD};
 ghost use Rattle.console.specs.Buffer.{Appends};
 ghost use Rattle.console.specs.Address.{orNone, octet, address, addressThen};
 

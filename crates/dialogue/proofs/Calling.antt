@@ -3,7 +3,6 @@ use mathlib.Core.Path.{_≡_, refl, sym, _∙_, ap, subst}
 use mathlib.Core.Bool.{Bool, true, false}
 use mathlib.Core.List.{List, [], _∷_, _++_}
 use Prim.Native.Nat.{ℕ}
-use lib.Dec.{eqb}
 use lib.ListN.{length, take, drop}
 use native.Mathlib.Omega.{arith}
 use Rattle.console.specs.Buffer.{Filled}
@@ -11,15 +10,14 @@ use Rattle.engine.specs.Calls.{Call, NewAddress, DeletedAddress, Advertise, Dat
 use Rattle.engine.specs.declared.advertisement.Endpoint.{Endpoint}
 use Rattle.engine.specs.Records.{Record}
 use Rattle.engine.specs.Layout.{layout, written}
-use Rattle.engine.specs.Engine.{Answers, Begins, step}
+use Rattle.engine.specs.Engine.{Answers}
 use Rattle.engine.specs.declared.engine.Engine.{Engine}
 use Rattle.engine.specs.declared.engine.Answered.{Answered}
 use Rattle.console.specs.declared.command.Command.{Command}
 use Rattle.console.specs.declared.command.Command.the-variants as line
 use Rattle.engine.specs.Held.{held}
-use Rattle.engine.specs.declared.engine.Answer.{Answer}
 use Rattle.dialogue.specs.Asking.{Asked, asked}
-use Rattle.dialogue.specs.Obeying.{Unheard, Begun, Called, Outcome, Obeys, answered}
+use Rattle.dialogue.specs.Obeying.{Unheard, Called, Outcome, Obeys}
 use Rattle.dialogue.specs.declared.session.Session.{Session}
 use Rattle.dialogue.specs.declared.session.Reply.{Reply}
 

@@ -11,7 +11,7 @@ use native.Mathlib.Nat.{add-zero}
 use Rattle.engine.specs.Sizes.{timeMax}
 use Rattle.engine.specs.Held.{Held, held, fresh, advertisementsOf}
 use Rattle.engine.specs.Calls.{Call, Counts, zeros, plus, acts}
-use Rattle.engine.specs.Replies.{waiting, soonest, Result, results}
+use Rattle.engine.specs.Replies.{waiting, soonest, results}
 use Rattle.engine.specs.Refusals.{newRefusal}
 use Rattle.engine.specs.Records.{Record, flat, records}
 use Rattle.engine.specs.Layout.{layout, written, Sent}

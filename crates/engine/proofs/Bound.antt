@@ -1,7 +1,7 @@
 -- No call sends more than 120 records (document 01, 'Outbox'), whatever it is, on tables that are within their sizes:
 -- a salvo of 8 names and 4 searches on 6 addresses, and 8 replies to the group on as many.
 use mathlib.Core.Bool.{Bool, true, false, cond, _&&_}
-use mathlib.Core.List.{List, [], _∷_, _++_, map}
+use mathlib.Core.List.{List, [], _∷_, map}
 use Prim.Native.Nat.{ℕ, _*_, _≤_}
 use native.Mathlib.Omega.{arith}
 use lib.ListN.{length, length-append, length-map}

@@ -1,8 +1,8 @@
 -- How many records each run over the tables has (document 01, 'Outbox': "the record count, at most 120").
-use mathlib.Core.Path.{_≡_, refl, sym, _∙_, ap}
+use mathlib.Core.Path.{_≡_, _∙_}
 use mathlib.Core.Bool.{Bool, true, false, cond, _||_}
-use mathlib.Core.List.{List, [], _∷_, _++_, map}
-use Prim.Native.Nat.{ℕ, suc, _+_, _*_, _≤_, min}
+use mathlib.Core.List.{List, [], _∷_, map}
+use Prim.Native.Nat.{ℕ, _+_, _*_, _≤_}
 use native.Mathlib.Omega.{arith}
 use native.Mathlib.Nat.{mul-le-mul, le-trans}
 use lib.ListN.{length, take, length-append, length-map, length-take}
@@ -10,7 +10,7 @@ use Rattle.text.specs.Bytes.{equal}
 use Rattle.engine.specs.Sizes.{recordsMax, advertisementsMax, subscriptionsMax, linksMax, addressesMax}
 use Rattle.engine.specs.Target.{ssdpAll}
 use Rattle.engine.specs.Held.{Text, Advertisement, advertisementOf, advertisementsOf, kindOf, subscriptionsOf}
-use Rattle.engine.specs.Records.{Record, SearchFrom, flat, anyAll, searchesOf, notify, notifyOn, searchOn, refreshOn, allFrom, isDue, replyRecords, dueRecords, timeoutOn}
+use Rattle.engine.specs.Records.{SearchFrom, flat, anyAll, searchesOf, notify, notifyOn, searchOn, refreshOn, allFrom, isDue, replyRecords, dueRecords, timeoutOn}
 use Rattle.engine.specs.declared.advertisement.Advertisements.{Advertisements}
 use Rattle.engine.specs.declared.subscription.ActiveSearches.{ActiveSearches}
 use Rattle.engine.specs.declared.advertisement.ResponseNeeded.{ResponseNeeded}

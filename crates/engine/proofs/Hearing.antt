@@ -1,25 +1,24 @@
 -- What follows from a datagram's reading: its refusal, what it does to the names, and whom it tells.
-use mathlib.Core.Path.{_≡_, refl, sym, _∙_, ap}
-use mathlib.Core.Bool.{Bool, true, false, cond, not}
-use mathlib.Core.List.{List, [], _∷_}
+use mathlib.Core.Path.{_≡_, refl, ap}
+use mathlib.Core.Bool.{cond, not}
+use mathlib.Core.List.{List, []}
 use Prim.Native.Nat.{ℕ, _≤_, _<_}
 use native.Mathlib.Omega.{arith}
 use borrow.Author.Tests.{lt-ltb, le-ltb, ne-eqb}
-use lib.Dec.{eqb, ltb}
+use lib.Dec.{eqb}
 use Rattle.message.specs.Parse.{parsed, parseRefusal, fieldAt}
 use Rattle.message.specs.declared.Message.{Message}
 use Rattle.message.specs.declared.Message.the-variants.{Empty, Invalid, NotifyAlive, NotifyByeBye, Search, Response}
 use Rattle.text.specs.declared.white.Place.{Place}
 use Rattle.engine.specs.Sizes.{timeMax}
 use Rattle.engine.specs.Reading.{readingOf}
-use Rattle.engine.specs.declared.reading.Reading.{Reading}
 use Rattle.engine.specs.declared.reading.Reading.the-variants.{Of, Unreadable}
 use Rattle.engine.specs.declared.reading.Subject.the-variants.{Search as SearchFor, Notice}
 use Rattle.engine.specs.declared.advertisement.Endpoint.{Endpoint}
 use Rattle.engine.specs.Held.{Text, Context}
-use Rattle.engine.specs.Calls.{Act, Datagram, asks}
-use Rattle.engine.specs.Refusals.{Check, Names, checks, refusal, searchChecks}
-use Rattle.engine.specs.Engine.{tellsOf, tellsAbout, Told}
+use Rattle.engine.specs.Calls.{Datagram, asks}
+use Rattle.engine.specs.Refusals.{Names, checks, refusal, searchChecks}
+use Rattle.engine.specs.Engine.{tellsOf, tellsAbout}
 
 -- a search is read as one
 pub search-read : (m : Message) (st : Place) (mx : ℕ) → readingOf m ≡ Of (SearchFor st mx) → m ≡ Search st mx

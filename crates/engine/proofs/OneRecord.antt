@@ -11,7 +11,7 @@ use lib.ListN.{length, take, drop, set, replicate, length-append, length-drop, l
 use lib.Seq.{paste, length-take-le, take-add, take-append-le, take-take, drop-append-add, drop-drop, drop-at, take-append-seam}
 use Rattle.text.specs.Put.{Put, overwritten}
 use Rattle.message.specs.Refusals.{accepted}
-use Rattle.message.specs.Build.{Bounded, anyOverSize, anyNotGood, locatedTexts, buildRefusal, Builds}
+use Rattle.message.specs.Build.{anyOverSize, anyNotGood, locatedTexts, buildRefusal, Builds}
 use Rattle.message.specs.declared.build.Built.{Built}
 use Rattle.text.proofs.Writing as put
 use Rattle.engine.specs.Sizes.{recordSize, headSize}

@@ -2,15 +2,15 @@
 -- no character reaches across an ASCII byte, so what is before it and what is behind it are judged apart.
 use Prim.Native.Nat.{ℕ, zero, suc, _≤_, _<_}
 use mathlib.Core.Path.{_≡_, refl, ap, sym, _∙_}
-use mathlib.Core.Bool.{Bool, true, false, cond, not, _&&_, and-false, and-eq-true-iff}
+use mathlib.Core.Bool.{Bool, true, false, not, _&&_, and-false, and-eq-true-iff}
 use mathlib.Core.List.{List, [], _∷_, _++_, reverse, append-assoc, append-nil, reverse-append, reverse-cons}
 use native.Mathlib.Omega.{arith}
-use lib.Dec.{leb, eqb, eqb·suc-suc}
+use lib.Dec.{leb, eqb}
 use lib.ListN.{length, length-append}
 use borrow.Author.Tests.{le-leb, lt-leb, eq-eqb, ne-eqb, leb-true}
 use Rattle.text.specs.Range.{within}
 use Rattle.text.specs.Utf8.{leadOf, expects, rest, utf8}
-use Rattle.text.specs.Bytes.{lacks, firstPlace, headed, indexOf}
+use Rattle.text.specs.Bytes.{lacks}
 use Rattle.text.specs.White.{whiteSpace, begins, white1, width, opening, closing, at, run, leading, trailing}
 use Rattle.text.specs.Good.{goodText}
 use Rattle.text.specs.Range.{every}

@@ -1,7 +1,7 @@
 -- A call on an engine: the answer, what is held after it, and the outbox. The contracts of the public calls cite `Answers` (document 01, 'Who can be turned away').
 use Prim.Native.Nat.{ℕ, zero, suc, _+_, _*_}
 use mathlib.Core.Path.{_≡_}
-use mathlib.Core.Bool.{Bool, true, false, cond}
+use mathlib.Core.Bool.{cond}
 use mathlib.Core.List.{List, [], _∷_}
 use lib.ListN.{length}
 use Rattle.message.specs.Parse.{parsed, fieldAt}

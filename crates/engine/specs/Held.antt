@@ -2,7 +2,7 @@
 -- A length above its array means the whole array, as `take` has it.
 use Prim.Native.Nat.{ℕ}
 use mathlib.Core.Bool.{Bool, true, false}
-use mathlib.Core.List.{List, [], _∷_, map}
+use mathlib.Core.List.{List, [], map}
 use lib.Dec.{eqb, ltb}
 use lib.ListN.{take}
 use Rattle.text.specs.Bytes.{order, equal}

@@ -1,13 +1,13 @@
 -- Links and addresses after the kernel's news, and the subscriptions and timer after the calls that change them: document 01, 'Links and addresses'.
 use Prim.Native.Nat.{ℕ, _+_, _*_, _-_}
-use mathlib.Core.Bool.{Bool, true, false, cond, not, _&&_, _||_}
+use mathlib.Core.Bool.{Bool, false, cond, not, _&&_, _||_}
 use mathlib.Core.List.{List, [], _∷_, _++_}
 use lib.Dec.{eqb}
 use lib.ListN.{length, take, getD}
 use Rattle.engine.specs.Table.{known, entryOf, enter, leave}
 use Rattle.engine.specs.Flags.{isUp, isMulticast}
 use Rattle.engine.specs.RefreshTimer.{timerStep, timerReset}
-use Rattle.engine.specs.Held.{Text, Link, Context, byIndex}
+use Rattle.engine.specs.Held.{Link, Context, byIndex}
 use Rattle.engine.specs.Calls.{Call, NewLink, DeletedLink, NewAddress, DeletedAddress, Subscribe, Advertise, Deadvertise, Refresh, Datagram, Timeout, ResetTimer}
 
 -- the addresses of the links in a list, and whether one of them is up

@@ -1,6 +1,6 @@
 -- The records that a call sends, in their order: document 01, 'Outbox' and 'Engine and ledger'.
 use Prim.Native.Nat.{ℕ}
-use mathlib.Core.Bool.{Bool, true, false, cond, not, _&&_, _||_}
+use mathlib.Core.Bool.{Bool, false, cond, not, _&&_, _||_}
 use mathlib.Core.List.{List, [], _∷_, _++_, map}
 use lib.Dec.{leb}
 use Rattle.text.specs.Bytes.{equal}

@@ -1,6 +1,6 @@
 -- Who can be turned away: the refusal of each call, in document 01's order. What it looks at of the names is handed in, so that the engine and the ledger share it.
 use Prim.Native.Nat.{ℕ}
-use mathlib.Core.Bool.{Bool, true, false, cond, not, _&&_, _||_}
+use mathlib.Core.Bool.{Bool, cond, not, _&&_, _||_}
 use mathlib.Core.List.{List, [], _∷_}
 use lib.Dec.{ltb, leb, eqb}
 use lib.ListN.{length}
@@ -9,7 +9,7 @@ use Rattle.message.specs.Parse.{parsed, fieldAt, parseRefusal}
 use Rattle.message.specs.Build.{typeMax, nameMax}
 use Rattle.message.specs.declared.Message.{Message}
 use Rattle.message.specs.declared.Message.the-variants.{Empty, Invalid, NotifyAlive, NotifyByeBye, Search, Response}
-use Rattle.engine.specs.Sizes.{timeMax, advertisementsMax, subscriptionsMax, linksMax, addressesMax, locationMax, outboxSize}
+use Rattle.engine.specs.Sizes.{timeMax, advertisementsMax, subscriptionsMax, linksMax, addressesMax, locationMax}
 use Rattle.engine.specs.Table.{known}
 use Rattle.engine.specs.Flags.{isMulticast}
 use Rattle.engine.specs.Held.{Text, Link, Context, byIndex}

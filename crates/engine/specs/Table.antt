@@ -1,7 +1,7 @@
 -- A table in ascending order of a key, as a list: advertisements in byte order of name, links by index (document 01, 'Outbox').
 -- All its rules look no further than the first entry that is not below the key.
 use Prim.Native.Nat.{ℕ, suc}
-use mathlib.Core.Bool.{Bool, true, false, cond}
+use mathlib.Core.Bool.{Bool, false, cond}
 use mathlib.Core.List.{List, [], _∷_}
 
 -- how entries are told apart and ordered

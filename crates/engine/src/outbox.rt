@@ -4,7 +4,7 @@ use crate::advertisement::Endpoint;
 use crate::buffer::put;
 use crate::location::rewrite_host;
 ghost use mathlib.Core.Path.{_≡_};
-ghost use mathlib.Core.List.{List, [], _∷_};
+ghost use mathlib.Core.List.{[], _∷_};
 ghost use Prim.Native.Nat.{_+_, _-_, _*_, _≤_};
 ghost use lib.ListN.{length, take, drop, replicate};
 ghost use Rattle.text.specs.Put.{Put};

@@ -1,7 +1,7 @@
 -- What a search makes of one slot of the host's tables, as the engine's own step: no reply opens or joins, one joins, one opens.
 use mathlib.Core.Path.{_≡_, refl, sym, _∙_, ap, subst}
 use mathlib.Core.Bool.{Bool, true, false, cond}
-use mathlib.Core.List.{List, []}
+use mathlib.Core.List.{[]}
 use Prim.Native.Nat.{ℕ, _+_, _≤_}
 use native.Mathlib.Nat.{add-zero}
 use lib.ListN.{length, take}
@@ -10,7 +10,7 @@ use Rattle.text.specs.Bytes.{equal}
 use Rattle.engine.specs.Held.{Text, Advertisement, advertisementOf as viewOf}
 use Rattle.engine.specs.Calls.{Query}
 use Rattle.engine.specs.Target.{ssdpAll, targetMatch}
-use Rattle.engine.specs.Replies.{isNone, waits, askedNeed, answerType, hits, asked, matchedBy, joinedBy}
+use Rattle.engine.specs.Replies.{isNone, waits, askedNeed, answerType, asked, matchedBy, joinedBy}
 use Rattle.engine.specs.Passes.{One, askedBy, withNeed, withAnswer}
 use Rattle.engine.specs.declared.advertisement.ResponseNeeded.{ResponseNeeded}
 use Rattle.engine.proofs.Waits as engine

@@ -2,8 +2,7 @@
 use mathlib.Core.Path.{_≡_, refl, sym, _∙_, ap}
 use mathlib.Core.Bool.{true, false, true≢false}
 use mathlib.Core.List.{List, [], _∷_}
-use Prim.Native.Nat.{ℕ, _+_, _≤_}
-use native.Mathlib.Omega.{arith}
+use Prim.Native.Nat.{ℕ, _+_}
 use lib.ListN.{length, take}
 use Rattle.text.specs.declared.white.Place.{Place}
 use Rattle.message.specs.Parse.{parsed, fieldAt}
@@ -17,7 +16,7 @@ use Rattle.engine.specs.Replies.{result, results}
 use Rattle.engine.specs.Passes.{askedBy}
 use Rattle.engine.specs.Asking.{Asking}
 use Rattle.engine.specs.Tallies.{counted, toldBy, asks, tellsMask}
-use Rattle.engine.specs.Engine.{answerWith, turned, namesOf, tells, tellsOf, tellsAbout, tellsNobody, Told}
+use Rattle.engine.specs.Engine.{answerWith, turned, namesOf, tells, tellsOf, tellsAbout, tellsNobody}
 use Rattle.engine.specs.Reading.{readingOf}
 use Rattle.engine.specs.Telling.{Tells}
 use Rattle.engine.specs.declared.advertisement.Endpoint.{Endpoint}
@@ -33,7 +32,7 @@ use Rattle.host.specs.declared.held.HeldEngine.{HeldEngine}
 use Rattle.host.specs.declared.held.HeldAnswer.{HeldAnswer}
 use Rattle.host.specs.declared.held.HeldHeard.{HeldHeard}
 use Rattle.host.specs.declared.datagram.HeldAsked.{HeldAsked}
-use Rattle.host.specs.Held.{timerOf, linksOf as linksHeld, searchesOf, tableOf, engineOf, answerOf}
+use Rattle.host.specs.Held.{searchesOf, engineOf, answerOf}
 use Rattle.host.specs.Waits.{answerBy}
 use Rattle.host.specs.Hearing.{RefusedBy, AsksAll, unchanged}
 use Rattle.host.specs.Boundary.{Hears, afterHearing}

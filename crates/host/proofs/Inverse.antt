@@ -23,7 +23,7 @@ use Rattle.host.specs.declared.held.HeldSearches.{HeldSearches}
 use Rattle.host.specs.declared.held.HeldReply.{HeldReply}
 use Rattle.host.specs.declared.held.HeldName.{HeldName}
 use Rattle.host.specs.declared.held.HeldEngine.{HeldEngine}
-use Rattle.host.specs.Held.{linkOf, linksOf, searchOf, searchesOf, waiting, replyOf, advertisementOf, slotsOf, engineOf}
+use Rattle.host.specs.Held.{linkOf, linksOf, searchOf, searchesOf, waiting, replyOf, slotsOf, engineOf}
 use Rattle.host.specs.Holding.{heldTimer, heldLink, heldLinks, heldSearch, heldSearches, heldReply, heldName, heldKind, heldAnswerType, heldReplyOf, heldOf, PlainUp, down, up, PlainWait, none, group, lone, Every, Plain}
 use Rattle.host.proofs.Tables.{with-wait}
 use Rattle.host.proofs.Crossing.{same-engine}

@@ -1,7 +1,7 @@
 -- A pass over the host's tables by a loop, as the engine's own pass over the slots that they make: one turn that stores, one that stores nothing, and the end.
 use mathlib.Core.Path.{_≡_, refl, sym, _∙_, ap, subst}
-use mathlib.Core.List.{List, [], _∷_, map}
-use Prim.Native.Nat.{ℕ, _+_, _<_, _≤_, min}
+use mathlib.Core.List.{List, _∷_, map}
+use Prim.Native.Nat.{ℕ, _+_, _<_, min}
 use native.Mathlib.Omega.{arith}
 use lib.ListN.{length, take, drop, set, getD}
 use Rattle.engine.specs.Held.{Advertisement, advertisementOf as viewOf, advertisementsOf}

@@ -1,11 +1,11 @@
 -- Laws of the slots that four tables of as many slots make.
 use mathlib.Core.Path.{_≡_, refl, sym, _∙_, ap}
 use mathlib.Core.List.{List, [], _∷_, map}
-use Prim.Native.Nat.{ℕ, zero, suc, _+_, _<_, _≤_}
+use Prim.Native.Nat.{ℕ, zero, suc, _+_, _<_}
 use native.Mathlib.Omega.{arith}
 use native.Mathlib.Numerals.{add-one}
 use lib.ListN.{length, take, drop, set, getD}
-use Rattle.engine.specs.Held.{Advertisement, advertisementOf as viewOf}
+use Rattle.engine.specs.Held.{advertisementOf as viewOf}
 use Rattle.engine.specs.Replies.{sumOf, waits, sooner, waiting, soonest}
 use Rattle.engine.specs.declared.advertisement.ActiveAdvertisement.{ActiveAdvertisement}
 use Rattle.host.specs.declared.held.HeldName.{HeldName}

@@ -1,7 +1,7 @@
 -- What `parse` answers: document 01, 'Messages', from "First lines are exact" on; UPnP Device Architecture 1.0, section 1, names the messages and their headers.
 use Prim.Native.Nat.{ℕ}
-use mathlib.Core.Bool.{Bool, true, false, cond, not}
-use mathlib.Core.List.{List, [], _∷_}
+use mathlib.Core.Bool.{cond, not}
+use mathlib.Core.List.{List}
 use lib.Dec.{eqb}
 use lib.ListN.{length, take, drop}
 use Rattle.text.specs.Bytes.{bytes, equal}

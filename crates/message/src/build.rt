@@ -5,10 +5,9 @@ ghost use mathlib.Core.Path.{_≡_};
 ghost use mathlib.Core.List.{_++_};
 ghost use Prim.Native.Nat.{_+_, _≤_};
 ghost use lib.ListN.{length};
-ghost use Rattle.text.specs.Bytes.{bytes};
 ghost use Rattle.text.specs.Good.{goodText};
 ghost use Rattle.text.specs.Put.{Put};
-ghost use Rattle.message.specs.Build.{Builds, buildRefusal, searchTexts, byebyeTexts, locatedTexts, searchText, responseText, notifyText, byebyeText, message, headerLine, headerLines, field, crlf, hostText, maxAgeText, serverText, bootHeaders, notifyLine};
+ghost use Rattle.message.specs.Build.{Builds, buildRefusal, searchTexts, byebyeTexts, locatedTexts, searchText, responseText, notifyText, byebyeText, headerLine, field, crlf, hostText, maxAgeText, notifyLine};
 
 // The largest sizes of the texts that go into a message.
 const TYPE_MAX: usize = 80;

@@ -2,7 +2,6 @@
 use borrow.Author.Needs.{needs}
 use Prim.Native.Nat.{_≤_, _-_}
 use lib.ListN.{length}
-use native.Mathlib.Omega.{arith}
 use Rattle.recorded.proofs.field_start.Statement.{statement}
 use Rattle.recorded.proofs.field_start.Tie as tie
 

@@ -1,6 +1,6 @@
 -- `address_of` meets its contract. The invariant: what is left of the text, behind the octets so far, decides. The measure is the count of dots that are left.
 use mathlib.Core.Path.{_≡_, refl, sym, _∙_}
-use Prim.Native.Nat.{ℕ, _≤_, _<_}
+use Prim.Native.Nat.{_≤_, _<_}
 use native.Mathlib.Omega.{arith}
 use borrow.Author.Needs.{needs}
 use lib.ListN.{length, drop}

@@ -1,6 +1,5 @@
 -- `append` meets its contract. The invariant: the first `i` bytes of the text are appended. The measure is what is left of the text.
-use mathlib.Core.Path.{_≡_}
-use Prim.Native.Nat.{ℕ, _≤_, _-_}
+use Prim.Native.Nat.{_≤_, _-_}
 use native.Mathlib.Omega.{arith}
 use borrow.Author.Needs.{needs}
 use lib.ListN.{length, take}

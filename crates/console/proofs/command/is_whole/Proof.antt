@@ -1,5 +1,4 @@
 -- `is_whole` meets its contract: field by field.
-use mathlib.Core.Bool.{_&&_}
 use borrow.Author.Needs.{needs}
 use Rattle.console.proofs.Commands.{all-five}
 use Rattle.console.proofs.command.is_whole.Statement.{statement}

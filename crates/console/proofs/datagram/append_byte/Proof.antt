@@ -1,5 +1,4 @@
 -- `append_byte` meets its contract: a bar is a line's end, any other byte itself.
-use mathlib.Core.Path.{sym}
 use borrow.Author.Needs.{needs}
 use borrow.Author.Tests.{eq-eqb, ne-eqb}
 use Rattle.console.specs.Datagram.{unbarred}

@@ -1,5 +1,5 @@
 -- `write_datagram` meets its contract. The invariant: the datagram of the first `i` bytes is written. The measure is what is left of the text.
-use Prim.Native.Nat.{ℕ, _≤_, _-_}
+use Prim.Native.Nat.{_≤_, _-_}
 use native.Mathlib.Omega.{arith}
 use borrow.Author.Needs.{needs}
 use lib.ListN.{length, take}

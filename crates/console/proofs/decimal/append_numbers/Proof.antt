@@ -1,5 +1,5 @@
 -- `append_numbers` meets its contract. The invariant: the first `i` numbers are appended. The measure is what is left of them.
-use Prim.Native.Nat.{ℕ, _≤_, _-_}
+use Prim.Native.Nat.{_≤_, _-_}
 use native.Mathlib.Omega.{arith}
 use borrow.Author.Needs.{needs}
 use lib.ListN.{length, take}

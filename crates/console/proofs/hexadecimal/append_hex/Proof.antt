@@ -1,5 +1,5 @@
 -- `append_hex` meets its contract. The invariant: the digits of the first `i` bytes are appended. The measure is what is left of the text.
-use Prim.Native.Nat.{ℕ, _≤_, _-_}
+use Prim.Native.Nat.{_≤_, _-_}
 use native.Mathlib.Omega.{arith}
 use borrow.Author.Needs.{needs}
 use lib.ListN.{length, take}

@@ -1,9 +1,9 @@
 -- `append_hex_byte` meets its contract: two digits, one behind the other.
-use mathlib.Core.Path.{_≡_, ap}
-use mathlib.Core.List.{List, [], _∷_}
+use mathlib.Core.Path.{ap}
+use mathlib.Core.List.{[], _∷_}
 use Prim.Native.Nat.{ℕ}
 use borrow.Author.Needs.{needs}
-use Rattle.console.specs.Hexadecimal.{hexByte, hexDigit}
+use Rattle.console.specs.Hexadecimal.{hexByte}
 use Rattle.console.proofs.Appending as laws
 use Rattle.console.proofs.hexadecimal.append_hex_byte.Statement.{statement}
 use Rattle.console.proofs.hexadecimal.append_hex_byte.Tie as tie

@@ -1,10 +1,9 @@
 -- `event_of` meets its contract: by the line's length.
-use mathlib.Core.Path.{_≡_, sym, _∙_, ap}
+use mathlib.Core.Path.{sym, _∙_, ap}
 use mathlib.Core.Bool.{Bool, cond}
 use borrow.Author.Needs.{needs}
 use borrow.Author.Tests.{le-leb, lt-leb}
 use Rattle.console.specs.Input.{lineMax, ended, eventIn}
-use Rattle.text.specs.Lines.{firstLine}
 use Rattle.console.specs.declared.input.Event.the-variants.{Line, TooLong}
 use Rattle.console.proofs.input.event_of.Statement.{statement}
 use Rattle.console.proofs.input.event_of.Tie as tie

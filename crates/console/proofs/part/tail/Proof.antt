@@ -2,7 +2,6 @@
 use mathlib.Core.Path.{sym, _∙_}
 use native.Mathlib.Omega.{arith}
 use borrow.Author.Needs.{needs}
-use Prim.Native.Nat.{ℕ}
 use lib.ListN.{length, drop-of-length-le}
 use Rattle.console.proofs.Parts.{tail as tail-is}
 use Rattle.console.proofs.part.tail.Statement.{statement}

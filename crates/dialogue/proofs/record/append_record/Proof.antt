@@ -1,12 +1,11 @@
 -- `append_record` meets its contract: its parts, one behind the other.
-use mathlib.Core.Path.{_≡_, _∙_, ap}
-use mathlib.Core.List.{List}
+use mathlib.Core.Path.{_∙_, ap}
 use Prim.Native.Nat.{ℕ}
 use lib.ListN.{take, drop}
 use Rattle.console.proofs.Appending as laws
 use Rattle.console.specs.Decimal.{numberThen}
 use Rattle.console.specs.Hexadecimal.{hexText}
-use Rattle.dialogue.specs.Printing.{numberAt, recordLine}
+use Rattle.dialogue.specs.Printing.{recordLine}
 use borrow.Author.Needs.{needs}
 use Rattle.dialogue.proofs.record.append_record.Statement.{statement}
 use Rattle.dialogue.proofs.record.append_record.Tie as tie

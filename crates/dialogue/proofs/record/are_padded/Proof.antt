@@ -1,5 +1,5 @@
 -- `are_padded` meets its contract. The invariant: `all` tells of the first `k` records. The measure is how many are left.
-use mathlib.Core.Path.{_≡_, refl}
+use mathlib.Core.Path.{_≡_}
 use Prim.Native.Nat.{_≤_, _-_}
 use native.Mathlib.Omega.{arith}
 use borrow.Author.Needs.{needs}

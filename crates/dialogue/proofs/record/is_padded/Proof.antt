@@ -1,5 +1,5 @@
 -- `is_padded` meets its contract: what follows the message decides.
-use mathlib.Core.Path.{_≡_, sym, _∙_, ap}
+use mathlib.Core.Path.{_∙_, ap}
 use mathlib.Core.List.{List}
 use Prim.Native.Nat.{ℕ, _+_}
 use native.Mathlib.Omega.{arith}

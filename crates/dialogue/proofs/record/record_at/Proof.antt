@@ -1,6 +1,5 @@
 -- `record_at` meets its contract: there is no such record, or it is there whole.
 use mathlib.Core.Path.{sym}
-use native.Mathlib.Omega.{arith}
 use borrow.Author.Needs.{needs}
 use Rattle.dialogue.proofs.Outbox.{no-record, whole-record}
 use Rattle.dialogue.proofs.record.record_at.Statement.{statement}

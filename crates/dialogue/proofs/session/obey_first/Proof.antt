@@ -1,5 +1,5 @@
 -- `obey_first` meets its contract: `new` begins, and no other command is heard.
-use mathlib.Core.Path.{_≡_, refl, subst}
+use mathlib.Core.Path.{refl, subst}
 use mathlib.Core.List.{List, [], _∷_}
 use Prim.Native.Nat.{ℕ}
 use lib.ListN.{length}
@@ -7,7 +7,6 @@ use types.Run.{OneOf, miss}
 use denote.Enum.Declared.{tagOf}
 use Rattle.console.proofs.command.Command.{the-type}
 use Rattle.console.specs.declared.command.Command.{Command}
-use Rattle.console.specs.declared.command.Command.the-variants.{New}
 use Rattle.dialogue.specs.Asking.{asked}
 use Rattle.dialogue.proofs.Calling.{obeyed, first-unheard}
 use borrow.Author.Needs.{needs}

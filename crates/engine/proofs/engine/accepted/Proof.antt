@@ -1,5 +1,5 @@
 -- `engine::accepted` meets its contract: waiting and poll are those of the engine.
-use mathlib.Core.Path.{_≡_, refl, sym, _∙_, ap}
+use mathlib.Core.Path.{refl}
 use Rattle.engine.specs.Tallies.{counted, toldBy}
 use Rattle.engine.proofs.Answering as answering
 use borrow.Author.Needs.{needs}

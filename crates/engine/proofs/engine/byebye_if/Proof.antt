@@ -1,10 +1,8 @@
 -- `engine::byebye_if` meets its contract: the byebyes of a held name, or nothing.
-use mathlib.Core.Path.{_≡_, refl, sym, _∙_, ap}
-use mathlib.Core.Bool.{Bool, cond}
-use mathlib.Core.List.{[]}
+use mathlib.Core.Path.{sym}
 use lib.ListN.{take}
 use Rattle.engine.specs.Held.{advertisementOf}
-use Rattle.engine.specs.Records.{Record, byebyeOn}
+use Rattle.engine.specs.Records.{byebyeOn}
 use Rattle.engine.proofs.Answering as answering
 use borrow.Author.Needs.{needs}
 use Rattle.engine.proofs.engine.byebye_if.Statement.{statement}

@@ -1,5 +1,4 @@
 -- `engine::empty` meets its contract: each table holds nothing.
-use mathlib.Core.Path.{_≡_, refl, sym, _∙_, ap}
 use Rattle.engine.specs.Held.{held}
 use borrow.Author.Needs.{needs}
 use Rattle.engine.proofs.engine.empty.Statement.{statement}

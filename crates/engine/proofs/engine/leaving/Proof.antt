@@ -1,5 +1,5 @@
 -- `engine::leaving` meets its contract, case by case.
-use mathlib.Core.Path.{_≡_, refl, sym, _∙_, ap}
+use mathlib.Core.Path.{refl}
 use Rattle.engine.proofs.engine.leaving.Statement.{statement}
 use Rattle.engine.proofs.engine.leaving.Tie as tie
 

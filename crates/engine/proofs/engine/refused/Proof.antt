@@ -1,5 +1,5 @@
 -- `engine::refused` meets its contract: waiting and poll are those of the engine.
-use mathlib.Core.Path.{_≡_, refl, sym, _∙_, ap}
+use mathlib.Core.Path.{refl}
 use Rattle.engine.specs.Calls.{zeros}
 use Rattle.engine.specs.Engine.{tellsNobody}
 use Rattle.engine.proofs.Answering as answering

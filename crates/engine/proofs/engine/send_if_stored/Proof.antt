@@ -1,8 +1,7 @@
 -- `engine::send_if_stored` meets its contract: what goes out, or nothing.
-use mathlib.Core.Path.{_≡_, refl, sym, _∙_, ap}
-use lib.ListN.{take}
+use mathlib.Core.Path.{sym}
 use Rattle.engine.specs.Held.{advertisementsOf, subscriptionsOf}
-use Rattle.engine.specs.Records.{flat, allFrom}
+use Rattle.engine.specs.Records.{allFrom}
 use Rattle.engine.proofs.Answering as answering
 use borrow.Author.Needs.{needs}
 use Rattle.engine.proofs.engine.send_if_stored.Statement.{statement}

@@ -1,5 +1,5 @@
 -- `engine::send_if_up` meets its contract: what goes out, or nothing.
-use mathlib.Core.Path.{_≡_, refl, sym, _∙_, ap}
+use mathlib.Core.Path.{sym}
 use lib.ListN.{take}
 use Rattle.engine.specs.Held.{advertisementsOf, subscriptionsOf}
 use Rattle.engine.specs.Records.{flat, allFrom}

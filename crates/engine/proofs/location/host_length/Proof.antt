@@ -1,5 +1,4 @@
 -- The places found, and how they lie, fix the case of the definition.
-use Prim.Native.Nat.{_<_, _≤_}
 use native.Mathlib.Omega.{arith}
 use Rattle.engine.proofs.Rewriting.{host-slash-first, host-no-slash, host-colon-first}
 use borrow.Author.Needs.{needs}

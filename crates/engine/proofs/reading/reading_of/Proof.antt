@@ -1,5 +1,5 @@
 -- `reading::reading_of` meets its contract, case by case.
-use mathlib.Core.Path.{_≡_, sym, ap}
+use mathlib.Core.Path.{sym, ap}
 use Rattle.engine.specs.Reading.{readingOf}
 use borrow.Author.Needs.{needs}
 use Rattle.engine.proofs.reading.reading_of.Statement.{statement}

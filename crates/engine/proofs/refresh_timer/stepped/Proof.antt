@@ -1,5 +1,4 @@
 -- A salvo that is due has its instant at most at the call's time, so the sum with a period fits.
-use Prim.Native.Nat.{_+_}
 use mathlib.Core.Path.{sym}
 use native.Mathlib.Omega.{arith}
 use Rattle.engine.proofs.Timer.{period-max, step-early, stepped-to}

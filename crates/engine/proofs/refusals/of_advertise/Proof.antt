@@ -1,42 +1,29 @@
 use borrow.Author.Needs.{needs}
-use mathlib.Core.Path.{_≡_, refl, sym, _∙_, ap}
 use Rattle.engine.specs.Refusals.{refusal, checks}
 use Rattle.engine.proofs.refusals.of_advertise.Statement.{statement}
 use Rattle.engine.proofs.refusals.of_advertise.Tie as tie
-use Rattle.engine.proofs.refusals.of_advertise.Reads as reads
-use Rattle.engine.proofs.refusals.of_advertise.Lts as lts
-use Rattle.engine.proofs.refusals.first.Reads as first-reads
-use Rattle.text.proofs.good.is_good.Reads as is-good-reads
 
--- src/refusals.rt:39:9
 first-requires : tie.Need-first-requires
 first-requires c κs = search needs
 
--- src/refusals.rt:40:17
 is-good-requires : tie.Need-is-good-requires
 is-good-requires c κs = search needs
 
--- src/refusals.rt:40:42
 is-good-requires-2 : tie.Need-is-good-requires-2
 is-good-requires-2 c κs = search needs
 
--- src/refusals.rt:40:67
 is-good-requires-3 : tie.Need-is-good-requires-3
 is-good-requires-3 c κs = search needs
 
--- src/refusals.rt:41:9
 first-requires-2 : tie.Need-first-requires-2
 first-requires-2 c κs = search needs
 
--- src/refusals.rt:43:9
 first-requires-3 : tie.Need-first-requires-3
 first-requires-3 c κs = search needs
 
--- src/refusals.rt:44:5
 first-requires-4 : tie.Need-first-requires-4
 first-requires-4 c κs = search needs
 
--- src/refusals.rt:36:1
 returns : tie.Need-returns
 unfolding refusal checks
 returns c x n h k m = rw (h, k, m) (cc)

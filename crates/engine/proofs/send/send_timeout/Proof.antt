@@ -1,12 +1,11 @@
 -- `send_timeout` meets its contract: the refresh records, and the replies behind them.
 use mathlib.Core.Path.{_≡_, sym, _∙_}
-use mathlib.Core.List.{List}
 use Prim.Native.Nat.{_≤_}
 use native.Mathlib.Omega.{arith}
 use lib.ListN.{length, take, length-map}
 use Rattle.engine.specs.Sizes.{advertisementsMax, subscriptionsMax}
 use Rattle.engine.specs.Held.{advertisementsOf, subscriptionsOf}
-use Rattle.engine.specs.Records.{Record, flat, refreshOn, dueRecords, timeoutOn}
+use Rattle.engine.specs.Records.{flat, refreshOn, dueRecords, timeoutOn}
 use Rattle.engine.proofs.Sending.{sent, next, room-all, room-next}
 use Rattle.engine.proofs.Counting.{taken-most, refresh-most, timeout-most, subscriptions-most, advertisements-most}
 use borrow.Author.Needs.{needs}

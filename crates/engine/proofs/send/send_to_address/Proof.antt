@@ -1,8 +1,8 @@
 -- `send_to_address` meets its contract: there is room for what one address gets.
-use mathlib.Core.Path.{_≡_, sym, _∙_}
+use mathlib.Core.Path.{sym, _∙_}
 use Prim.Native.Nat.{_≤_}
 use native.Mathlib.Omega.{arith}
-use lib.ListN.{length, take, length-map}
+use lib.ListN.{length, length-map}
 use Rattle.engine.specs.Sizes.{advertisementsMax, subscriptionsMax}
 use Rattle.engine.specs.Held.{advertisementsOf, subscriptionsOf}
 use Rattle.engine.specs.Records.{allFrom}

@@ -1,6 +1,6 @@
 -- Refused, or with the refresh records and the due replies sent and the timer rolled.
 use Prim.Native.Nat.{ℕ}
-use mathlib.Core.Path.{_≡_, refl, sym, _∙_, ap}
+use mathlib.Core.Path.{refl, sym, _∙_, ap}
 use mathlib.Core.List.{List}
 use lib.Dec.{leb}
 use lib.ListN.{length}

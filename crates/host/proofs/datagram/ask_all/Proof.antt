@@ -2,7 +2,7 @@
 use mathlib.Core.Path.{_≡_, refl, sym, _∙_, ap}
 use mathlib.Core.Bool.{true}
 use mathlib.Core.List.{List, []}
-use Prim.Native.Nat.{ℕ, _+_, _-_, _≤_, min}
+use Prim.Native.Nat.{_+_, _-_, _≤_}
 use lib.ListN.{length, drop, getD, length-set}
 use native.Mathlib.Omega.{arith}
 use borrow.Author.Tests.{not-true, not-false}
@@ -10,8 +10,6 @@ use Rattle.engine.specs.Target.{targetMatch}
 use Rattle.engine.specs.Replies.{isNone, waits, askedNeed, asked, matchedBy, joinedBy}
 use Rattle.engine.specs.Passes.{askedBy}
 use Rattle.host.specs.declared.held.HeldName.{HeldName}
-use Rattle.host.specs.declared.held.HeldType.{HeldType}
-use Rattle.host.specs.declared.held.HeldReply.{HeldReply}
 use Rattle.host.proofs.Zipped.{Even, same-behind, set-behind}
 use Rattle.host.proofs.Turning as turning
 use Rattle.host.proofs.Asking as asking

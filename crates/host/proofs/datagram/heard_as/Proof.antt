@@ -1,5 +1,5 @@
 -- Refused by its time or as it cannot be read, or by what a search comes to; or notice of a type.
-use mathlib.Core.Path.{_≡_, refl, sym, _∙_, ap}
+use mathlib.Core.Path.{sym, _∙_, ap}
 use native.Mathlib.Omega.{arith}
 use Rattle.message.specs.Parse.{parsed, parseRefusal}
 use Rattle.engine.specs.Reading.{readingOf}

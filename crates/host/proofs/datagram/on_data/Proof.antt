@@ -4,14 +4,13 @@ use Prim.Native.Nat.{ℕ, _+_}
 use lib.ListN.{length, length-map}
 use native.Mathlib.Omega.{arith}
 use Rattle.engine.proofs.ReplyDelay.{delay-seed}
-use Rattle.engine.specs.Held.{Text, subscriptionsOf}
+use Rattle.engine.specs.Held.{subscriptionsOf}
 use Rattle.engine.specs.Telling.{Tells}
 use Rattle.engine.specs.declared.subscription.ActiveSearches.{ActiveSearches}
 use Rattle.host.specs.Held.{endpointOf}
 use Rattle.engine.specs.Calls.{Datagram}
 use Rattle.host.specs.Hearing.{Hearing}
 use Rattle.host.specs.Boundary.{Hears}
-use Rattle.host.specs.declared.datagram.Heard.{Heard}
 use Rattle.host.specs.declared.datagram.Heard.the-variants.{Refused, Search, Notice}
 use Rattle.host.proofs.Zipped.{Even}
 use Rattle.host.proofs.Hearing as hearing

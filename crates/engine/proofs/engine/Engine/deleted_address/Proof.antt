@@ -1,15 +1,11 @@
 -- `Engine::deleted_address` meets its contract: refused, or with the links after the news.
-use mathlib.Core.Path.{_≡_, refl, sym, _∙_, ap}
-use mathlib.Core.Bool.{Bool, cond}
-use mathlib.Core.List.{List, [], _∷_}
-use Rattle.engine.specs.declared.refresh_timer.RefreshTimer.{RefreshTimer}
-use Rattle.engine.specs.Held.{Held, Link, Text, held, holding, linksOf, subscriptionsOf, advertisementsOf, byIndex}
+use mathlib.Core.Path.{refl, sym, _∙_, ap}
+use mathlib.Core.List.{List, []}
+use Rattle.engine.specs.Held.{Link, held, holding, subscriptionsOf, advertisementsOf}
 use Rattle.engine.specs.Links.{contextAfter}
-use Rattle.engine.specs.Records.{records, refreshRecords, refreshOn, searchOn}
+use Rattle.engine.specs.Records.{records}
 use Rattle.engine.specs.Replies.{results}
-use Rattle.engine.specs.Refusals.{refusal, checks}
-use Rattle.engine.specs.Engine.{turned, namesOf, tells, Told}
-use lib.ListN.{length}
+use Rattle.engine.specs.Engine.{turned, namesOf, tells}
 use Rattle.engine.proofs.Answering as answering
 use Rattle.engine.specs.Calls.{DeletedAddress, acts}
 use borrow.Author.Needs.{needs}

@@ -1,26 +1,17 @@
 -- `Engine::handle_timeout` meets its contract: refused, or with the refresh records and the due replies sent, the replies ended and the timer rolled.
 use Prim.Native.Nat.{ℕ}
-use mathlib.Core.Path.{_≡_, refl, sym, _∙_, ap}
-use mathlib.Core.Bool.{Bool, cond, _||_}
-use mathlib.Core.List.{List, [], _∷_, map}
-use Rattle.engine.specs.Sizes.{outboxSize, locationMax, timeMax}
-use Rattle.message.specs.Build.{typeMax, nameMax}
+use mathlib.Core.Path.{sym, _∙_, ap}
+use mathlib.Core.List.{List}
 use Rattle.engine.specs.declared.refresh_timer.RefreshTimer.{RefreshTimer}
-use Rattle.engine.specs.declared.refresh_timer.TimerAnswer.{TimerAnswer}
 use Rattle.engine.specs.RefreshTimer.{timerStep}
-use Rattle.engine.specs.Held.{Held, Link, Text, Advertisement, held, holding, linksOf, subscriptionsOf, advertisementsOf, advertisementOf}
-use Rattle.engine.specs.Links.{contextAfter, upAddresses}
-use Rattle.engine.specs.Records.{records, NotifyFrom, flat, byebyeOn, refreshRecords, timeoutOn}
-use Rattle.engine.specs.Replies.{result, results, drops, sumOf, aloneAt, groupAt}
+use Rattle.engine.specs.Held.{Advertisement, held, holding, linksOf, subscriptionsOf, advertisementsOf}
+use Rattle.engine.specs.Links.{contextAfter}
+use Rattle.engine.specs.Records.{records}
+use Rattle.engine.specs.Replies.{result, results, sumOf, aloneAt, groupAt}
 use Rattle.engine.specs.Tallies.{sends}
-use Rattle.engine.specs.Refusals.{refusal, checks, over}
-use Rattle.engine.specs.Engine.{turned, namesOf, tells}
-use lib.Dec.{leb}
-use lib.ListN.{length, take}
-use native.Mathlib.Omega.{arith}
-use borrow.Author.Tests.{ltb-false}
-use Rattle.engine.proofs.Accepted.{passed}
-use Rattle.engine.proofs.Timer.{timer-accepted}
+use Rattle.engine.specs.Refusals.{refusal}
+use Rattle.engine.specs.Engine.{tells}
+use lib.ListN.{length}
 use Rattle.engine.proofs.Answering as answering
 use Rattle.engine.specs.Calls.{Timeout, acts}
 use borrow.Author.Needs.{needs}

@@ -1,12 +1,12 @@
 -- `Engine::new` meets its contract: a refused one gives an engine at time 0.
-use mathlib.Core.Path.{_≡_, refl, sym, _∙_, ap}
+use mathlib.Core.Path.{sym, _∙_, ap}
 use mathlib.Core.List.{[]}
 use Rattle.engine.specs.RefreshTimer.{timerNew}
 use Rattle.engine.specs.declared.refresh_timer.RefreshTimer.{RefreshTimer}
 use Rattle.engine.specs.declared.refresh_timer.TimerAnswer.{TimerAnswer}
 use Rattle.engine.specs.Calls.{Counts, zeros}
-use Rattle.engine.specs.Engine.{Told, tellsNobody, answerWith}
-use Rattle.engine.specs.Held.{Held, held, holding, fresh}
+use Rattle.engine.specs.Engine.{Told, answerWith}
+use Rattle.engine.specs.Held.{held, holding, fresh}
 use Rattle.engine.proofs.Timer.{timer-refused, timer-accepted}
 use Rattle.engine.specs.Tallies.{toldBy}
 use Rattle.engine.proofs.Answering as answering

@@ -1,15 +1,14 @@
 -- `Engine::new_link` meets its contract: refused, or with the links after the news, and a link that turned up sent from.
 use Prim.Native.Nat.{ℕ}
-use mathlib.Core.Path.{_≡_, refl, sym, _∙_, ap}
-use mathlib.Core.Bool.{Bool, cond, _&&_}
-use mathlib.Core.List.{List, [], _∷_}
+use mathlib.Core.Path.{refl, sym, _∙_, ap}
+use mathlib.Core.Bool.{Bool, cond}
+use mathlib.Core.List.{List, []}
 use Rattle.engine.specs.Sizes.{outboxSize}
-use Rattle.engine.specs.Flags.{isMulticast}
-use Rattle.engine.specs.Held.{Held, Link, held, holding, linksOf, subscriptionsOf, advertisementsOf}
-use Rattle.engine.specs.Links.{contextAfter, addressesOf, linkAt, anyUp, stores, addressOf}
+use Rattle.engine.specs.Held.{Link, held, holding, linksOf, subscriptionsOf, advertisementsOf}
+use Rattle.engine.specs.Links.{contextAfter}
 use Rattle.engine.specs.Records.{records, addressRecords, turnsUp, flat, allFrom}
 use Rattle.engine.specs.Replies.{results}
-use Rattle.engine.specs.Refusals.{refusal, checks}
+use Rattle.engine.specs.Refusals.{checks}
 use Rattle.engine.specs.Engine.{turned, namesOf, tells}
 use lib.ListN.{length, take}
 use native.Mathlib.Omega.{arith}

@@ -1,27 +1,15 @@
 -- `Engine::on_data` meets its contract: refused by its time or as it cannot be read, or by what it comes to.
-use Prim.Native.Nat.{ℕ, _≤_, _<_}
-use mathlib.Core.Path.{_≡_, refl, sym, _∙_, ap, subst}
-use mathlib.Core.List.{List, [], _∷_}
-use lib.ListN.{length}
+use mathlib.Core.Path.{refl, sym, _∙_, ap}
+use mathlib.Core.List.{[]}
 use native.Mathlib.Omega.{arith}
-use borrow.Author.Tests.{ltb-false}
-use Rattle.message.specs.Build.{typeMax}
-use Rattle.message.specs.Parse.{parsed, parseRefusal, fieldAt}
-use Rattle.message.specs.declared.Message.{Message}
-use Rattle.engine.specs.Held.{Held, Text, Advertisement, held, holding, linksOf, subscriptionsOf, advertisementsOf}
-use Rattle.engine.specs.Calls.{Query, Act, Asks, Datagram, Counts, asks as asked-by, acts}
-use Rattle.engine.specs.Links.{contextAfter}
-use Rattle.engine.specs.Records.{records}
-use Rattle.engine.specs.Replies.{result, results}
-use Rattle.engine.specs.Tallies.{asks, tellsMask}
-use Rattle.engine.specs.Refusals.{refusal, checks, searchChecks}
-use Rattle.engine.specs.Engine.{turned, namesOf, tells, tellsOf, tellsAbout, maskOf, toldOf, Told}
+use Rattle.message.specs.Parse.{parsed, parseRefusal}
+use Rattle.engine.specs.Calls.{Datagram}
+use Rattle.engine.specs.Replies.{result}
+use Rattle.engine.specs.Engine.{turned}
 use Rattle.engine.specs.Reading.{readingOf}
-use Rattle.engine.proofs.Accepted.{passed, Passed}
 use Rattle.engine.proofs.Answering as answering
 use Rattle.engine.proofs.Hearing as hearing
-use Rattle.engine.specs.declared.reading.Reading.the-variants.{Of, Unreadable}
-use Rattle.engine.specs.declared.reading.Subject.{Subject}
+use Rattle.engine.specs.declared.reading.Reading.the-variants.{Of}
 use borrow.Author.Needs.{needs}
 use Rattle.engine.proofs.engine.Engine.on_data.Statement.{statement}
 use Rattle.engine.proofs.engine.Engine.on_data.Tie as tie

@@ -1,23 +1,15 @@
 -- `Engine::on_notice` meets its contract: nothing changes, and the subscriptions that match are told.
-use Prim.Native.Nat.{ℕ, _≤_, _<_}
-use mathlib.Core.Path.{_≡_, refl, sym, _∙_, ap, subst}
-use mathlib.Core.List.{List, [], _∷_}
-use lib.ListN.{length}
-use native.Mathlib.Omega.{arith}
-use borrow.Author.Tests.{ltb-false}
-use Rattle.message.specs.Build.{typeMax}
-use Rattle.message.specs.Parse.{parsed, fieldAt}
-use Rattle.message.specs.declared.Message.{Message}
-use Rattle.engine.specs.Held.{Held, Text, Advertisement, held, holding, linksOf, subscriptionsOf, advertisementsOf}
-use Rattle.engine.specs.Calls.{Query, Act, Asks, Datagram, Counts, asks as asked-by, acts}
+use Prim.Native.Nat.{ℕ}
+use mathlib.Core.Path.{sym, _∙_, ap}
+use mathlib.Core.List.{List}
+use Rattle.message.specs.Parse.{parsed}
+use Rattle.engine.specs.Held.{held, holding, linksOf, subscriptionsOf, advertisementsOf}
+use Rattle.engine.specs.Calls.{Act, Datagram, acts}
 use Rattle.engine.specs.Links.{contextAfter}
 use Rattle.engine.specs.Records.{records}
 use Rattle.engine.specs.Replies.{result, results}
-use Rattle.engine.specs.Tallies.{asks, tellsMask}
-use Rattle.engine.specs.Refusals.{refusal, checks, searchChecks}
-use Rattle.engine.specs.Engine.{turned, namesOf, tells, tellsOf, tellsAbout, maskOf, toldOf, Told}
-use Rattle.engine.specs.Reading.{readingOf}
-use Rattle.engine.proofs.Accepted.{passed, Passed}
+use Rattle.engine.specs.Tallies.{tellsMask}
+use Rattle.engine.specs.Engine.{turned, tells, tellsAbout}
 use Rattle.engine.proofs.Answering as answering
 use Rattle.engine.proofs.Hearing as hearing
 use borrow.Author.Needs.{needs}

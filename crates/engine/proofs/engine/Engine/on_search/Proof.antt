@@ -1,5 +1,5 @@
 -- `Engine::on_search` meets its contract: refused, or with the search put to every name.
-use Prim.Native.Nat.{ℕ, _≤_, _<_}
+use Prim.Native.Nat.{ℕ}
 use mathlib.Core.Path.{_≡_, refl, sym, _∙_, ap, subst}
 use mathlib.Core.List.{List, [], _∷_}
 use lib.ListN.{length}
@@ -8,18 +8,16 @@ use borrow.Author.Tests.{ltb-false}
 use Rattle.message.specs.Build.{typeMax}
 use Rattle.message.specs.Parse.{parsed, fieldAt}
 use Rattle.message.specs.declared.Message.{Message}
-use Rattle.engine.specs.Held.{Held, Text, Advertisement, held, holding, linksOf, subscriptionsOf, advertisementsOf}
-use Rattle.engine.specs.Calls.{Query, Act, Asks, Datagram, Counts, asks as asked-by, acts}
+use Rattle.engine.specs.Held.{Text, Advertisement, held, holding, linksOf, subscriptionsOf, advertisementsOf}
+use Rattle.engine.specs.Calls.{Query, Act, Asks, Datagram, asks as asked-by, acts}
 use Rattle.engine.specs.Links.{contextAfter}
 use Rattle.engine.specs.Records.{records}
 use Rattle.engine.specs.Replies.{result, results}
-use Rattle.engine.specs.Tallies.{asks, tellsMask}
-use Rattle.engine.specs.Refusals.{refusal, checks, searchChecks}
-use Rattle.engine.specs.Engine.{turned, namesOf, tells, tellsOf, tellsAbout, maskOf, toldOf, Told}
-use Rattle.engine.specs.Reading.{readingOf}
+use Rattle.engine.specs.Tallies.{asks}
+use Rattle.engine.specs.Refusals.{checks, searchChecks}
+use Rattle.engine.specs.Engine.{turned, namesOf, tells, tellsOf}
 use Rattle.engine.proofs.Accepted.{passed, Passed}
 use Rattle.engine.proofs.Answering as answering
-use Rattle.engine.proofs.Hearing as hearing
 use borrow.Author.Needs.{needs}
 use Rattle.engine.proofs.engine.Engine.on_search.Statement.{statement}
 use Rattle.engine.proofs.engine.Engine.on_search.Tie as tie

@@ -1,16 +1,14 @@
 -- `Engine::refresh` meets its contract: refused, or with all announcements sent.
 use Prim.Native.Nat.{ℕ}
-use mathlib.Core.Path.{_≡_, refl, sym, _∙_, ap}
-use mathlib.Core.Bool.{Bool, cond}
-use mathlib.Core.List.{List, [], _∷_}
-use Rattle.engine.specs.declared.refresh_timer.RefreshTimer.{RefreshTimer}
-use Rattle.engine.specs.Held.{Held, Link, Text, held, holding, linksOf, subscriptionsOf, advertisementsOf, byIndex}
+use mathlib.Core.Path.{refl, sym, _∙_, ap}
+use mathlib.Core.List.{List}
+use Rattle.engine.specs.Held.{held, subscriptionsOf, advertisementsOf}
 use Rattle.engine.specs.Sizes.{outboxSize}
 use Rattle.engine.specs.Links.{contextAfter}
-use Rattle.engine.specs.Records.{records, refreshRecords, refreshOn, searchOn}
+use Rattle.engine.specs.Records.{records, refreshRecords, refreshOn}
 use Rattle.engine.specs.Replies.{results}
-use Rattle.engine.specs.Refusals.{refusal, checks}
-use Rattle.engine.specs.Engine.{turned, namesOf, tells, Told}
+use Rattle.engine.specs.Refusals.{checks}
+use Rattle.engine.specs.Engine.{turned, namesOf, tells}
 use lib.ListN.{length}
 use Rattle.engine.proofs.Answering as answering
 use native.Mathlib.Omega.{arith}

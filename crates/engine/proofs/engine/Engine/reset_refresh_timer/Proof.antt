@@ -1,5 +1,5 @@
 -- `Engine::reset_refresh_timer` meets its contract: refused by its time, or with the timer reset.
-use mathlib.Core.Path.{_≡_, refl, sym, _∙_, ap}
+use mathlib.Core.Path.{refl, sym, _∙_, ap}
 use mathlib.Core.List.{[]}
 use Rattle.engine.specs.RefreshTimer.{timerReset}
 use Rattle.engine.specs.declared.refresh_timer.RefreshTimer.{RefreshTimer}

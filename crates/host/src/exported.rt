@@ -1,4 +1,5 @@
-// What is exported. Each call copies the lent engine, runs by value and stores what it gave back: a refused call gives back what it was lent.
+// What is exported. Each call copies the lent engine and runs by value. Ten store the engine that they give back, where they are refused the one that
+// they were lent; `on_data` and `handle_timeout` store the parts that they change.
 use crate::calls;
 use crate::datagram;
 use crate::held::HeldAnswer;

@@ -1,4 +1,4 @@
-// An engine in the host's numbers: held on exit of each call that is accepted.
+// An engine in the host's numbers: held on exit of each call that goes through the engine, unless it is refused.
 use crate::held::HeldAnswer;
 use crate::held::HeldAnswered;
 use crate::held::HeldEngine;

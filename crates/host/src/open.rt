@@ -1,5 +1,5 @@
-// The engine that the host's numbers stand for: opened on entry of each call. Tables are written out slot by slot, which compiles to
-// far less copying than a loop over a local array.
+// The engine that the host's numbers stand for: opened on entry of each call that goes through the engine. Tables are written out slot by
+// slot, which compiles to far less copying than a loop over a local array.
 use crate::held::HeldEngine;
 use crate::held::HeldLink;
 use crate::held::HeldLinks;

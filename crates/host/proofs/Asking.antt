@@ -1,9 +1,8 @@
 -- What a search makes of one slot of the host's tables, as the engine's own step: no reply opens or joins, one joins, one opens.
-use mathlib.Core.Path.{_≡_, refl, sym, _∙_, ap, subst}
+use mathlib.Core.Path.{_≡_, refl, sym, _∙_, ap}
 use mathlib.Core.Bool.{Bool, true, false, cond}
 use mathlib.Core.List.{[]}
-use Prim.Native.Nat.{ℕ, _+_, _≤_}
-use native.Mathlib.Nat.{add-zero}
+use Prim.Native.Nat.{ℕ, _≤_}
 use lib.ListN.{length, take}
 use lib.Seq.{take-all}
 use Rattle.text.specs.Bytes.{equal}
@@ -20,20 +19,6 @@ use Rattle.host.specs.declared.held.HeldReply.{HeldReply}
 use Rattle.host.specs.Held.{replyOf, advertisementOf}
 use Rattle.host.specs.Holding.{heldReply}
 use Rattle.host.proofs.Inverse.{reply-back}
-
--- what stands behind the end of a table
-abbrev pub no-name : HeldName
-no-name = record { name = []; «name_len» = 0; location = []; «location_len» = 0 }
-
-abbrev pub no-type : HeldType
-no-type = record { kind = []; «kind_len» = 0 }
-
-abbrev pub no-reply : HeldReply
-no-reply = record { due = 0; sender = 0; receiver = 0; port = 0; needed = 0 }
-
--- nothing was added to either sum
-pub unadded : (P : ℕ → ℕ → Type 0) (m n : ℕ) → P (m + 0) (n + 0) → P m n
-unadded P m n p = subst (λ (x : ℕ). P x n) (add-zero m) (subst (λ (y : ℕ). P (m + 0) y) (add-zero n) p)
 
 -- the bytes of a type
 abbrev pub typeText : HeldType → Text

@@ -1,9 +1,8 @@
--- The loops over the host's waiting replies: how many wait, the next instant, and the replies that a handle_timeout ends; and what a handle_timeout promises.
+-- The loops over the host's waiting replies: the next instant, and the replies that a handle_timeout ends; and what a handle_timeout promises.
 use mathlib.Core.Path.{_≡_, refl, sym, _∙_, ap, subst}
 use mathlib.Core.Bool.{true, false}
 use mathlib.Core.List.{List, [], _∷_}
 use Prim.Native.Nat.{ℕ, _+_, _<_, _≤_, min}
-use native.Mathlib.Nat.{add-zero}
 use native.Mathlib.Omega.{arith}
 use lib.ListN.{length, take, drop, set, getD, length-set}
 use Rattle.engine.specs.Held.{advertisementOf as viewOf, held, holding, linksOf as linksHeld, subscriptionsOf, advertisementsOf}
@@ -11,7 +10,7 @@ use Rattle.engine.specs.Calls.{Timeout, Counts, zeros, acts}
 use Rattle.engine.specs.RefreshTimer.{timerStep}
 use Rattle.engine.specs.Links.{contextAfter}
 use Rattle.engine.specs.Records.{isDue}
-use Rattle.engine.specs.Replies.{sumOf, waits, sooner, served, isAlone, isGroup, aloneAt, groupAt, result, results}
+use Rattle.engine.specs.Replies.{sumOf, sooner, served, isAlone, isGroup, aloneAt, groupAt, result, results}
 use Rattle.engine.specs.Tallies.{counted, toldBy, sends}
 use Rattle.engine.specs.Engine.{tells, tellsNobody, answerWith}
 use Rattle.engine.specs.TimedOut.{TimedOut, engineOf as engineAt}
@@ -36,36 +35,13 @@ use Rattle.host.specs.declared.held.HeldAnswer.{HeldAnswer}
 use Rattle.host.specs.declared.timeout.HeldServed.{HeldServed}
 use Rattle.host.specs.Held.{timerOf, linksOf, searchesOf, replyOf, advertisementOf, slotsOf, tableOf, engineOf, answerOf}
 use Rattle.host.specs.Holding.{heldReply, heldTimer}
-use Rattle.host.specs.Waits.{waitingOf, soonestOf, answerBy}
+use Rattle.host.specs.Waits.{soonestOf, answerBy}
 use Rattle.host.specs.Serving.{ServesAll}
 use Rattle.host.specs.Boundary.{Crosses, afterTick}
 use Rattle.host.proofs.Crossing.{same-engine}
 use Rattle.host.proofs.Telling.{answer-at}
-use Rattle.host.proofs.Zipped.{Even, same-at, same-behind, set-behind}
-use Rattle.host.proofs.Turning.{entriesOf, turn-start, turn-replied, turn-kept, turn-over}
-
--- ---- how many wait: `rest` is what is left of the replies behind the first i
-module _ (l : List HeldReply) where
-  pub record Waited (i : ℕ) (rest : List HeldReply) (sum : ℕ) : Type 0 where
-    pub total : waitingOf l ≡ sum + waitingOf rest
-    pub few : sum ≤ i
-
-  pub waited-start : Waited 0 l 0
-  waited-start = record { total = omega arith; few = omega arith }
-
-  pub waited-turn : {i : ℕ} {rest more : List HeldReply} {a : HeldReply} {needed : ResponseNeeded} {sum one : ℕ} → rest ≡ a ∷ more → needed ≡ replyOf a → (one ≡ waits needed) × (one ≤ 1)
-      → Waited i rest sum → Waited (i + 1) more (sum + one)
-  unfolding waitingOf
-  waited-turn {i} {rest} {more} {a} {needed} {sum} {one} e n h s =
-      let z : waitingOf rest ≡ waits (replyOf a) + waitingOf more = ap waitingOf e in
-      let y : one ≡ waits (replyOf a) = h .0 ∙ ap waits n in
-      record { total = omega (arith, s .total, y, z); few = omega (arith, s .few, h .1) }
-
-  pub waited-over : {i : ℕ} {rest : List HeldReply} {sum : ℕ} → rest ≡ [] → Waited i rest sum → sum ≡ waitingOf l
-  unfolding waitingOf
-  waited-over {i} {rest} {sum} e s =
-      let z : waitingOf rest ≡ 0 = ap waitingOf e in
-      omega (arith, s .total, z)
+use Rattle.host.proofs.Zipped.{even-of, same-at, same-behind, set-behind}
+use Rattle.host.proofs.Turning.{no-name, no-type, entriesOf, turn-start, turn-replied, turn-kept, turn-over}
 
 -- ---- the next instant
 pub soonest-turn : (s : ℕ) {t s′ : ℕ} {rest more : List HeldReply} {a : HeldReply} {needed : ResponseNeeded} → rest ≡ a ∷ more → needed ≡ replyOf a → s′ ≡ sooner s needed
@@ -78,15 +54,6 @@ unfolding soonestOf
 soonest-over {t} {s} {rest} e p = sym (p ∙ ap (soonestOf s) e)
 
 -- ---- the replies that are due end
-abbrev no-name : HeldName
-no-name = record { name = []; «name_len» = 0; location = []; «location_len» = 0 }
-
-abbrev no-type : HeldType
-no-type = record { kind = []; «kind_len» = 0 }
-
-even-of : {names : List HeldName} {kinds answers : List HeldType} {replies : List HeldReply} → length names ≡ 8 → length kinds ≡ 8 → length answers ≡ 8 → length replies ≡ 8 → Even names kinds answers replies
-even-of n k w a = record { kinds = k ∙ sym n; answers = w ∙ sym n; replies = a ∙ sym n }
-
 module _ (time count : ℕ) (replies : List HeldReply) where
   -- i replies are passed, and the table is `now′` now
   pub record Serves (i : ℕ) (now′ : List HeldReply) (alone group : ℕ) : Type 0 where
@@ -136,11 +103,9 @@ module _ (time count : ℕ) (replies : List HeldReply) where
         few = omega (arith, s .few);
         fewer = omega (arith, s .fewer);
         passing = λ names kinds answers en ek ew.
-            subst (λ (n : ℕ). Passing (served time) (aloneAt time) (groupAt time) (entriesOf count names kinds answers replies) (i + 1) (drop (i + 1) (entriesOf count names kinds answers replies)) (slotsOf names kinds answers now′) alone n) (add-zero group)
-            (subst (λ (m : ℕ). Passing (served time) (aloneAt time) (groupAt time) (entriesOf count names kinds answers replies) (i + 1) (drop (i + 1) (entriesOf count names kinds answers replies)) (slotsOf names kinds answers now′) m (group + 0)) (add-zero alone)
-            (turn-kept (served time) (aloneAt time) (groupAt time) count names kinds answers replies (even-of en ek ew eight) no-name no-type no-type d (even-of en ek ew (s .size)) (omega (arith, en, lt)) refl (s .same)
+            turn-kept (served time) (aloneAt time) (groupAt time) count names kinds answers replies (even-of en ek ew eight) no-name no-type no-type d (even-of en ek ew (s .size)) (omega (arith, en, lt)) refl (s .same)
             (serve-later time (viewOf (advertisementOf (getD names i no-name) (getD kinds i no-type) (getD answers i no-type) (getD replies i d))) (ap (isDue time) (sym before) ∙ later) refl)
-            (s .passing names kinds answers en ek ew)));
+            (s .passing names kinds answers en ek ew);
       }
 
     pub serves-over : {i : ℕ} (r : HeldServed) → i ≡ min count 8 → Serves i (r .replies) (r .alone) (r .group) → ServesAll time count replies r

@@ -20,6 +20,9 @@ pub record Even (ns : List HeldName) (ks ws : List HeldType) (as′ : List HeldR
   pub answers : length ws ≡ length ns
   pub replies : length as′ ≡ length ns
 
+pub even-of : {n : ℕ} {ns : List HeldName} {ks ws : List HeldType} {as′ : List HeldReply} → length ns ≡ n → length ks ≡ n → length ws ≡ n → length as′ ≡ n → Even ns ks ws as′
+even-of n k w a = record { kinds = k ∙ sym n; answers = w ∙ sym n; replies = a ∙ sym n }
+
 even-rest : {n : HeldName} {k w : HeldType} {a : HeldReply} {ns : List HeldName} {ks ws : List HeldType} {as′ : List HeldReply}
     → Even (n ∷ ns) (k ∷ ks) (w ∷ ws) (a ∷ as′) → Even ns ks ws as′
 even-rest e = record { kinds = omega (arith, e .kinds); answers = omega (arith, e .answers); replies = omega (arith, e .replies) }
@@ -98,7 +101,7 @@ set-behind l m i x e = ap (λ (j : ℕ). drop j (set l i x)) (add-one i) ∙ beh
 
 -- ---- how many replies wait, and the next instant, of the first m slots
 pub waiting-slots : (ns : List HeldName) (ks ws : List HeldType) (as′ : List HeldReply) → Even ns ks ws as′ → (m : ℕ) → waitingOf (take m as′) ≡ waiting (map viewOf (take m (slotsOf ns ks ws as′)))
-unfolding slotsOf waitingOf waiting sumOf viewOf
+unfolding slotsOf waiting sumOf viewOf
 waiting-slots = by-slots (λ ns ks ws as′. (m : ℕ) → waitingOf (take m as′) ≡ waiting (map viewOf (take m (slotsOf ns ks ws as′)))) none more
   where
     none : (m : ℕ) → waitingOf (take m []) ≡ waiting (map viewOf (take m []))

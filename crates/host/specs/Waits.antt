@@ -1,15 +1,14 @@
 -- The waiting replies of what the host holds: how many wait, the next instant, and the answer with both.
-use Prim.Native.Nat.{ℕ, _+_}
+use Prim.Native.Nat.{ℕ}
 use mathlib.Core.List.{List, [], _∷_}
-use Rattle.engine.specs.Replies.{waits, sooner}
+use Rattle.engine.specs.Replies.{sumOf, waits, sooner}
 use Rattle.engine.specs.declared.engine.Tally.{Tally}
 use Rattle.host.specs.declared.held.HeldReply.{HeldReply}
 use Rattle.host.specs.declared.held.HeldAnswer.{HeldAnswer}
 use Rattle.host.specs.Held.{replyOf}
 
-unfoldable pub waitingOf : List HeldReply → ℕ
-waitingOf [] = 0
-waitingOf (a ∷ l) = waits (replyOf a) + waitingOf l
+abbrev pub waitingOf : List HeldReply → ℕ
+waitingOf l = sumOf (λ a. waits (replyOf a)) l
 
 unfoldable pub soonestOf : ℕ → List HeldReply → ℕ
 soonestOf t [] = t

@@ -2,7 +2,7 @@
 use mathlib.Core.Path.{_≡_, refl, sym, _∙_, ap}
 use mathlib.Core.Bool.{true}
 use mathlib.Core.List.{List, []}
-use Prim.Native.Nat.{_+_, _-_, _≤_}
+use Prim.Native.Nat.{_-_, _≤_}
 use lib.ListN.{length, drop, getD, length-set}
 use native.Mathlib.Omega.{arith}
 use borrow.Author.Tests.{not-true, not-false}
@@ -10,7 +10,7 @@ use Rattle.engine.specs.Target.{targetMatch}
 use Rattle.engine.specs.Replies.{isNone, waits, askedNeed, asked, matchedBy, joinedBy}
 use Rattle.engine.specs.Passes.{askedBy}
 use Rattle.host.specs.declared.held.HeldName.{HeldName}
-use Rattle.host.proofs.Zipped.{Even, same-behind, set-behind}
+use Rattle.host.proofs.Zipped.{Even, even-of, same-behind, set-behind}
 use Rattle.host.proofs.Turning as turning
 use Rattle.host.proofs.Asking as asking
 use borrow.Author.Needs.{needs}
@@ -83,10 +83,9 @@ loop-again c =
       same-behind (l .waits) (a .t4) (l .i) (l .inv .4),
       omega (arith, l .inv .5),
       omega (arith, l .inv .6),
-      λ names even. asking.unadded (turning.Turned (asked (a .due) q) (matchedBy q) (joinedBy q) (a .count) names (a .t2) (a .answers) (a .t4) even (l .i + 1) (l .types) (l .waits)) (l .matched) (l .joined)
-          (turning.turn-kept (asked (a .due) q) (matchedBy q) (joinedBy q) (a .count) names (a .t2) (a .answers) (a .t4) even asking.no-name asking.no-type asking.no-type asking.no-reply
+      λ names even. turning.turn-kept (asked (a .due) q) (matchedBy q) (joinedBy q) (a .count) names (a .t2) (a .answers) (a .t4) even turning.no-name turning.no-type turning.no-type turning.no-reply
           (record { kinds = even .kinds; answers = l .inv .1 ∙ sym (answers-size s) ∙ even .answers; replies = l .inv .2 ∙ sym (replies-size s) ∙ even .replies })
-          (omega (arith, c .before .before .before .before .before .before .before .before .before .before .least .ensures, even .kinds, kinds-size s)) (l .inv .3) (l .inv .4) (asking.slot-missed (a .due) q (getD names (l .i) asking.no-name) (getD (a .t2) (l .i) asking.no-type) (getD (a .answers) (l .i) asking.no-type) (getD (a .t4) (l .i) asking.no-reply) missed) (l .inv .7 names even)),
+          (omega (arith, c .before .before .before .before .before .before .before .before .before .before .least .ensures, even .kinds, kinds-size s)) (l .inv .3) (l .inv .4) (asking.slot-missed (a .due) q (getD names (l .i) turning.no-name) (getD (a .t2) (l .i) turning.no-type) (getD (a .answers) (l .i) turning.no-type) (getD (a .t4) (l .i) turning.no-reply) missed) (l .inv .7 names even),
     )
 
 mul-reply : tie.Need-mul-reply Inv-loop μ-loop
@@ -143,9 +142,9 @@ loop-again-2 c =
       set-behind (l .waits) (a .t4) (l .i) _ (l .inv .4),
       omega (arith, l .inv .5),
       omega (arith, l .inv .6, c .before .before .wait-of .ensures .1),
-      λ names even. turning.turn-replied (asked (a .due) q) (matchedBy q) (joinedBy q) (a .count) names (a .t2) (a .answers) (a .t4) even asking.no-name asking.no-type asking.no-type asking.no-reply
+      λ names even. turning.turn-replied (asked (a .due) q) (matchedBy q) (joinedBy q) (a .count) names (a .t2) (a .answers) (a .t4) even turning.no-name turning.no-type turning.no-type turning.no-reply
           (record { kinds = even .kinds; answers = l .inv .1 ∙ sym (answers-size s) ∙ even .answers; replies = l .inv .2 ∙ sym (replies-size s) ∙ even .replies })
-          (omega (arith, inside, c .before .before .before .before .before .before .before .before .before .before .before .before .before .before .before .before .before .least .ensures, even .kinds, kinds-size s)) (c .before .before .before .hold-reply .result) (l .inv .3) (asking.slot-joined (a .due) q (getD names (l .i) asking.no-name) (getD (a .t2) (l .i) asking.no-type) (getD (a .answers) (l .i) asking.no-type) (getD (a .t4) (l .i) asking.no-reply) hit (c .before .before .wait-of .ensures .0 ∙ ap waits needed, c .before .before .wait-of .ensures .1) asks (c .before .before .before .hold-reply .ensures) waiting) (l .inv .7 names even),
+          (omega (arith, inside, c .before .before .before .before .before .before .before .before .before .before .before .before .before .before .before .before .before .least .ensures, even .kinds, kinds-size s)) (c .before .before .before .hold-reply .result) (l .inv .3) (asking.slot-joined (a .due) q (getD names (l .i) turning.no-name) (getD (a .t2) (l .i) turning.no-type) (getD (a .answers) (l .i) turning.no-type) (getD (a .t4) (l .i) turning.no-reply) hit (c .before .before .wait-of .ensures .0 ∙ ap waits needed, c .before .before .wait-of .ensures .1) asks (c .before .before .before .hold-reply .ensures) waiting) (l .inv .7 names even),
     )
 
 chosen-requires : tie.Need-chosen-requires Inv-loop μ-loop
@@ -170,7 +169,7 @@ loop-again-3 c =
     let needed = c .before .before .before .before .before .before .open-reply .ensures in
     let asks = c .before .before .before .before .before .asked-reply .ensures ∙ ap (askedNeed true (a .due) (askedBy [] (a .sender) (a .receiver))) needed in
     let waiting = ap isNone (sym needed) ∙ sym (c .before .before .opens .ensures) ∙ not-false _ (c .before .if2 .left) in
-    let answer = asking.answer-text (a .target .now) (c .before .before .before .before .before .before .before .before .before .before .before .before .before .before .before .before .before .is-all .result) (getD (a .t2) (l .i) asking.no-type) (c .before .before .before .before .before .before .before .before .before .before .before .before .before .before .before .before .type-of .result) (c .before .before .before .before .before .before .before .before .before .before .before .before .before .before .before .before .before .is-all .ensures) (c .chosen .ensures) (c .before .before .before .before .before .before .before .before .before .before .before .before .before .before .before .before .type-of .ensures .1) (s .pre) in
+    let answer = asking.answer-text (a .target .now) (c .before .before .before .before .before .before .before .before .before .before .before .before .before .before .before .before .before .is-all .result) (getD (a .t2) (l .i) turning.no-type) (c .before .before .before .before .before .before .before .before .before .before .before .before .before .before .before .before .type-of .result) (c .before .before .before .before .before .before .before .before .before .before .before .before .before .before .before .before .before .is-all .ensures) (c .chosen .ensures) (c .before .before .before .before .before .before .before .before .before .before .before .before .before .before .before .before .type-of .ensures .1) (s .pre) in
     let inside = c .before .before .before .before .before .before .before .before .before .before .before .before .before .before .loop-test .taken in (
       omega (arith, inside),
       simp length-set (l .inv .1),
@@ -179,9 +178,9 @@ loop-again-3 c =
       set-behind (l .waits) (a .t4) (l .i) _ (l .inv .4),
       omega (arith, l .inv .5),
       omega (arith, l .inv .6, c .before .before .before .wait-of .ensures .1),
-      λ names even. turning.turn-stored (asked (a .due) q) (matchedBy q) (joinedBy q) (a .count) names (a .t2) (a .answers) (a .t4) even asking.no-name asking.no-type asking.no-type asking.no-reply
+      λ names even. turning.turn-stored (asked (a .due) q) (matchedBy q) (joinedBy q) (a .count) names (a .t2) (a .answers) (a .t4) even turning.no-name turning.no-type turning.no-type turning.no-reply
           (record { kinds = even .kinds; answers = l .inv .1 ∙ sym (answers-size s) ∙ even .answers; replies = l .inv .2 ∙ sym (replies-size s) ∙ even .replies })
-          (omega (arith, inside, c .before .before .before .before .before .before .before .before .before .before .before .before .before .before .before .before .before .before .least .ensures, even .kinds, kinds-size s)) (c .chosen .result) (c .before .before .before .before .hold-reply .result) (asking.slot-opened (a .due) q (getD names (l .i) asking.no-name) (getD (a .t2) (l .i) asking.no-type) (getD (a .answers) (l .i) asking.no-type) (getD (a .t4) (l .i) asking.no-reply) hit (c .before .before .before .wait-of .ensures .0 ∙ ap waits needed, c .before .before .before .wait-of .ensures .1) asks (c .before .before .before .before .hold-reply .ensures) (c .chosen .result) waiting answer) (l .inv .7 names even),
+          (omega (arith, inside, c .before .before .before .before .before .before .before .before .before .before .before .before .before .before .before .before .before .before .least .ensures, even .kinds, kinds-size s)) (c .chosen .result) (c .before .before .before .before .hold-reply .result) (asking.slot-opened (a .due) q (getD names (l .i) turning.no-name) (getD (a .t2) (l .i) turning.no-type) (getD (a .answers) (l .i) turning.no-type) (getD (a .t4) (l .i) turning.no-reply) hit (c .before .before .before .wait-of .ensures .0 ∙ ap waits needed, c .before .before .before .wait-of .ensures .1) asks (c .before .before .before .before .hold-reply .ensures) (c .chosen .result) waiting answer) (l .inv .7 names even),
     )
 
 returns : tie.Need-returns Inv-loop μ-loop
@@ -193,9 +192,9 @@ returns c =
     record {
       all =
           λ names size.
-          let even : Even names (a .t2) (a .answers) (a .t4) = record { kinds = kinds-size s ∙ sym size; answers = answers-size s ∙ sym size; replies = replies-size s ∙ sym size } in
+          let even : Even names (a .t2) (a .answers) (a .t4) = even-of size (kinds-size s) (answers-size s) (replies-size s) in
           turning.turn-over (asked (a .due) q) (matchedBy q) (joinedBy q) (a .count) names (a .t2) (a .answers) (a .t4) even
-          (record { kinds = even .kinds; answers = l .inv .1 ∙ sym size; replies = l .inv .2 ∙ sym size }) (omega (arith, c .before .before .before .before .least .ensures, size)) (l .inv .7 names even);
+          (even-of size (kinds-size s) (l .inv .1) (l .inv .2)) (omega (arith, c .before .before .before .before .least .ensures, size)) (l .inv .7 names even);
       types-size = l .inv .1;
       waits-size = l .inv .2;
     }

@@ -12,7 +12,7 @@ use Rattle.engine.specs.Calls.{Datagram}
 use Rattle.host.specs.Hearing.{Hearing}
 use Rattle.host.specs.Boundary.{Hears}
 use Rattle.host.specs.declared.datagram.Heard.the-variants.{Refused, Search, Notice}
-use Rattle.host.proofs.Zipped.{Even}
+use Rattle.host.proofs.Zipped.{Even, even-of}
 use Rattle.host.proofs.Hearing as hearing
 use borrow.Author.Needs.{needs}
 use Rattle.host.proofs.datagram.on_data.Statement.{statement}
@@ -22,11 +22,9 @@ names-size : (s : tie.Start) → length (s .args .h .names) ≡ 8
 names-size s = sym (length-map (s .args .h .names) _) ∙ s .good .0 .1 .1 .1 .1 .1 .1 .1 .1 .1 .1 .0 .1 .0 .1
 
 even : (s : tie.Start) → Even (s .args .h .names) (s .args .h .kinds) (s .args .h .answers) (s .args .h .replies)
-even s = record {
-  kinds = sym (length-map (s .args .h .kinds) _) ∙ s .good .0 .1 .1 .1 .1 .1 .1 .1 .0 .1 .0 .1 ∙ sym (names-size s);
-  answers = sym (length-map (s .args .h .answers) _) ∙ s .good .0 .1 .1 .1 .1 .1 .1 .1 .1 .0 .1 .0 .1 ∙ sym (names-size s);
-  replies = sym (length-map (s .args .h .replies) _) ∙ s .good .0 .1 .1 .1 .1 .1 .1 .1 .1 .1 .0 .1 .0 .1 ∙ sym (names-size s);
-}
+even s =
+    even-of (names-size s) (sym (length-map (s .args .h .kinds) _) ∙ s .good .0 .1 .1 .1 .1 .1 .1 .1 .0 .1 .0 .1) (sym (length-map (s .args .h .answers) _) ∙ s .good .0 .1 .1 .1 .1 .1 .1 .1 .1 .0 .1 .0 .1)
+    (sym (length-map (s .args .h .replies) _) ∙ s .good .0 .1 .1 .1 .1 .1 .1 .1 .1 .1 .0 .1 .0 .1)
 
 heard-as-requires : tie.Need-heard-as-requires
 heard-as-requires c κs = search needs

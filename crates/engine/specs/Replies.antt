@@ -57,6 +57,7 @@ askedNeed true due q None = Unicast due (q .sender) (q .receiver)
 askedNeed true due q (Multicast d) = Multicast d
 askedNeed true due q (Unicast d sender receiver) = shared (sameSender sender (q .sender)) d sender receiver
 
+-- no reply waits: a search that asks for the name opens one
 abbrev pub isNone : ResponseNeeded → Bool
 isNone None = true
 isNone (Multicast due) = false

@@ -1,4 +1,5 @@
--- A handle_timeout but for the replies that it ends: its refusal, what it sends, and the timer after it.
+-- A handle_timeout but for the replies that it ends: its refusal, what it sends, and the timer after it (document 01, 'Engine and ledger' and 'Refresh timer'). Refused, it
+-- writes nothing, counts no record and gives the timer back.
 use Prim.Native.Nat.{ℕ}
 use mathlib.Core.Path.{_≡_}
 use mathlib.Core.List.{List}
@@ -23,5 +24,6 @@ engineOf seed timer links searches t = record { «random_seed» = seed; «refres
 pub record TimedOut (e : Engine) (time : ℕ) (outbox outbox′ : List ℕ) (r : TimeoutSent) : Type 0 where
   pub refusal : r .refusal ≡ turned (held e) (Timeout time (length outbox))
   pub untouched : (r .refusal ≡ 0 → ⊥) → outbox′ ≡ outbox
+  pub kept : (r .refusal ≡ 0 → ⊥) → (r .records ≡ 0) × (r .timer ≡ e .«refresh_timer»)
   pub sent : r .refusal ≡ 0 → Sent (records (held e .context) (held e .advertisements) (Timeout time (length outbox))) outbox outbox′ (r .records)
   pub timer : r .refusal ≡ 0 → r .timer ≡ timerStep (e .«refresh_timer») time

@@ -1,4 +1,4 @@
--- What a datagram comes to, and a search over the host's tables.
+-- What a datagram comes to, and a search over the host's tables (document 01, 'Engine and ledger' and 'Who can be turned away').
 use Prim.Native.Nat.{ℕ, _≤_}
 use mathlib.Core.Path.{_≡_}
 use mathlib.Core.Bool.{false}

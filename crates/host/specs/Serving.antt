@@ -1,4 +1,4 @@
--- A handle_timeout over the host's replies, for all that the other tables hold.
+-- A handle_timeout over the host's replies, for all that the other tables hold (document 01, 'Engine and ledger').
 use Prim.Native.Nat.{ℕ}
 use mathlib.Core.Path.{_≡_}
 use mathlib.Core.List.{List}

@@ -1,4 +1,4 @@
--- The waiting replies of what the host holds: how many wait, the next instant, and the answer with both.
+-- The waiting replies of what the host holds: how many wait, the next instant, and the answer with both (document 01, 'Engine and ledger').
 use Prim.Native.Nat.{ℕ}
 use mathlib.Core.List.{List, [], _∷_}
 use Rattle.engine.specs.Replies.{sumOf, waits, sooner}

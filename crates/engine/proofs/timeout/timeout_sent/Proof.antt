@@ -30,6 +30,7 @@ unfolding turned namesOf
 returns c = λ seed. record {
   refusal = c .before .of-timeout .ensures _ _ refl;
   untouched = λ refused. refl;
+  kept = λ refused. (refl, refl);
   sent = λ z. absurd (c .if1 .taken z);
   timer = λ z. absurd (c .if1 .taken z);
 }
@@ -61,6 +62,7 @@ returns-2 c = λ seed.
     record {
       refusal = sym number;
       untouched = λ refused. absurd (refused refl);
+      kept = λ refused. absurd (refused refl);
       sent = λ z.
           answering.sent-as (c .before .before .before .before .send-timeout .ensures) (ap (λ (l : List ℕ). timeoutOn l (leb (a .timer .«next_salvo») (a .time)) (a .time) (subscriptionsOf (a .searches)) (advertisementsOf (a .t))) (c .before .before .before .before .before .before .before .before .of-up-links .ensures .held));
       timer = λ z. ap (λ (t : TimerAnswer). t .timer) (c .before .updated .ensures) ∙ timer-accepted (a .time) (a .timer) (timerStep (a .timer) (a .time)) (omega (arith, ltb-false timeMax (a .time) (p .0)));

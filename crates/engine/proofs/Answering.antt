@@ -96,7 +96,7 @@ pub too-late : (time : ℕ) → (newRefusal time ≡ 0 → ⊥) → timeMax < ti
 unfolding newRefusal
 too-late time h = late-or-not (ltb timeMax time) time refl .1 h
 
-new-refused : (k seed time : ℕ) → (k ≡ 0 → ⊥) → newStep k seed time ≡ refusedBy k (fresh seed 0)
+pub new-refused : (k seed time : ℕ) → (k ≡ 0 → ⊥) → newStep k seed time ≡ refusedBy k (fresh seed 0)
 new-refused zero seed time n = absurd (n refl)
 new-refused (suc k) seed time n = refl
 

@@ -26,6 +26,17 @@ pub mod OneRecord
 pub mod Runs
 pub mod Announcing
 pub mod Counting
+pub mod TableRows
+pub mod Moves
+pub mod NameRows
+pub mod LinkRows
+pub mod SearchRows
+pub mod Wanting
+pub mod TablePasses
+pub mod TableRuns
+pub mod Heads
+pub mod Lending
+pub mod NothingDue
 pub mod Answering
 pub mod Hearing
 pub mod LeafLaws

@@ -50,6 +50,10 @@ module _ (kind : Text) where
   mask-small [] = omega arith
   mask-small (s ∷ l) = omega (arith, bit-small (targetMatch s kind), mask-small l, pow-suc 2 (length l))
 
+  -- that of 31 subscriptions or fewer has room for one bit more
+  pub mask-fits : (l : List Text) → length l ≤ 31 → maskOf l kind < 2147483648
+  mask-fits l h = omega (arith, mask-small l, pow-mono {i = length l} {j = 31} h)
+
   -- that of three subscriptions or fewer
   pub mask-few : (l : List Text) → length l ≤ 3 → maskOf l kind < 8
   mask-few l h = omega (arith, mask-small l, pow-mono {i = length l} {j = 3} h)

@@ -5,6 +5,7 @@ use mathlib.Core.List.{List, [], _∷_, _++_, append-assoc, append-nil}
 use Prim.Native.Nat.{ℕ, min, _+_, _*_, _≤_}
 use native.Mathlib.Omega.{arith}
 use lib.ListN.{length, take, getD}
+use Rattle.engine.specs.Sizes.{linksMax, addressesMax}
 use Rattle.engine.specs.Held.{Link}
 use Rattle.engine.specs.Links.{upAddresses}
 use Rattle.engine.specs.Addresses.{SourcesOf}
@@ -28,13 +29,13 @@ module _ (l : List ℕ) (m : ℕ) where
 module _ (ls : List Link) where
   pub record Gathering (i : ℕ) (rest : List Link) (out : Sources) : Type 0 where
     pub done : take (out .count) (out .addresses) ++ upAddresses rest ≡ upAddresses ls
-    pub few : out .count ≤ 2 * i
+    pub few : out .count ≤ addressesMax * i
 
   pub gather-start : {out : Sources} → out .count ≡ 0 → Gathering 0 ls out
   gather-start {out} e = record { done = ap (λ (k : ℕ). take k (out .addresses) ++ upAddresses ls) e; few = omega arith }
 
   pub gather-turn : {i : ℕ} {rest more : List Link} {a : Link} {out out′ : Sources} → rest ≡ a ∷ more
-      → (take (out′ .count) (out′ .addresses) ≡ take (out .count) (out .addresses) ++ cond (a .up) (a .addresses) []) × (out′ .count ≤ out .count + 2)
+      → (take (out′ .count) (out′ .addresses) ≡ take (out .count) (out .addresses) ++ cond (a .up) (a .addresses) []) × (out′ .count ≤ out .count + addressesMax)
       → Gathering i rest out → Gathering (i + 1) more out′
   unfolding upAddresses
   gather-turn {i} {rest} {more} {a} {out} {out′} e s g = record {
@@ -46,7 +47,7 @@ module _ (ls : List Link) where
     few = omega (arith, s .1, g .few);
   }
 
-  pub gather-over : {i : ℕ} {rest : List Link} {out : Sources} → rest ≡ [] → i ≤ 3 → Gathering i rest out → SourcesOf (upAddresses ls) out
+  pub gather-over : {i : ℕ} {rest : List Link} {out : Sources} → rest ≡ [] → i ≤ linksMax → Gathering i rest out → SourcesOf (upAddresses ls) out
   unfolding upAddresses
   gather-over {i} {rest} {out} e h g = record {
     held =

@@ -27,5 +27,11 @@ pub mod TimedOut
 pub mod Tallies
 pub mod Telling
 pub mod Ledger
+pub mod Rows
+pub mod Shifts
+pub mod Wanted
+pub mod Arrays
+pub mod Changes
+pub mod Promises
 pub mod Claim
 pub mod StarCases

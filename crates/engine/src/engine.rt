@@ -157,7 +157,7 @@ fn refused(e: Engine, number: u32) -> Answered
 }
 
 // A link was deleted: its leave outcome, if it was held.
-fn leaving(held: bool, outcome: u32) -> Tally
+pub fn leaving(held: bool, outcome: u32) -> Tally
     ensures { λ r. ⌜ (counted r ≡ zeros) × (toldBy r ≡ leaves (cond held outcome 0)) ⌝ }
 {
     let leave = if held { outcome } else { 0 };
@@ -174,7 +174,7 @@ fn leaving(held: bool, outcome: u32) -> Tally
 }
 
 // A name was replaced or has left, and its waiting reply with it.
-fn dropping(dropped: usize) -> Tally
+pub fn dropping(dropped: usize) -> Tally
     ensures { λ r. ⌜ (counted r ≡ drops dropped) × (toldBy r ≡ tellsNobody) ⌝ }
 {
     Tally {

@@ -1,4 +1,6 @@
 -- The link of the index loses the address and is entered again; where there is no such link nothing changes.
+use mathlib.Core.Path.{_≡_}
+use Rattle.engine.specs.Held.{linksOf}
 use Rattle.engine.proofs.LinkNews as news
 use borrow.Author.Needs.{needs}
 use Rattle.engine.proofs.news.address_gone.Statement.{statement}
@@ -19,7 +21,7 @@ entered-requires c κs = search needs
 returns : tie.Need-returns
 returns c =
     let s = c .before .before .before .before .before .before .before .before .args in
-    news.address-gone (c .before .before .before .before .before .before .held-at .ensures) (c .before .without-address .result) (c .entered .ensures) (s .address .now)
+    news.address-gone (λ l. linksOf (c .entered .result) ≡ l) (c .before .before .before .before .before .before .held-at .ensures) (c .before .without-address .result) (c .entered .ensures) (s .address .now)
     (c .before .before .before .if1 .taken)
     (c .before .before .number-of .ensures)
     (c .before .without-address .ensures)

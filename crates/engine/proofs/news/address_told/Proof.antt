@@ -1,5 +1,6 @@
 -- The link of the index gets the address and is entered again; an address that is not to be stored changes nothing.
-use mathlib.Core.Path.{sym, _∙_}
+use mathlib.Core.Path.{_≡_, sym, _∙_}
+use Rattle.engine.specs.Held.{linksOf}
 use Rattle.engine.proofs.LinkNews as news
 use borrow.Author.Needs.{needs}
 use Rattle.engine.proofs.news.address_told.Statement.{statement}
@@ -23,7 +24,7 @@ entered-requires c κs = search needs
 returns : tie.Need-returns
 returns c =
     let s = c .before .before .before .before .before .before .before .before .args in
-    news.address-told (c .before .before .before .before .held-at .ensures) (c .before .with-address .result) (c .entered .ensures) (s .address .now)
+    news.address-told (λ l. linksOf (c .entered .result) ≡ l) (c .before .before .before .before .held-at .ensures) (c .before .with-address .result) (c .entered .ensures) (s .address .now)
     (sym (c .before .before .before .before .before .before .is-stored .ensures) ∙ c .before .before .before .before .before .if1 .taken)
     (c .before .before .number-of .ensures)
     (c .before .with-address .ensures)

@@ -1,5 +1,6 @@
 -- The link of the index follows its news and is entered again; news that is not of a multicast link changes nothing.
-use mathlib.Core.Path.{sym, _∙_}
+use mathlib.Core.Path.{_≡_, sym, _∙_}
+use Rattle.engine.specs.Held.{linksOf}
 use Rattle.engine.proofs.LinkNews as news
 use borrow.Author.Needs.{needs}
 use Rattle.engine.proofs.news.link_told.Statement.{statement}
@@ -23,7 +24,7 @@ entered-requires c κs = search needs
 returns : tie.Need-returns
 returns c =
     let s = c .before .before .before .before .before .before .before .args in
-    news.link-told (c .before .before .before .before .held-at .ensures) (c .before .with-state .result) (c .entered .ensures) (s .flags)
+    news.link-told (λ l. linksOf (c .entered .result) ≡ l) (c .before .before .before .before .held-at .ensures) (c .before .with-state .result) (c .entered .ensures) (s .flags)
     (sym (c .before .before .before .before .before .before .is-multicast .ensures) ∙ c .before .before .before .before .before .if1 .taken)
     (c .before .before .is-up .ensures)
     (c .before .with-state .ensures)

@@ -1,0 +1,61 @@
+-- Before the instant to be polled at nothing is due: a handle_timeout then sends nothing, ends no reply and counts none.
+use mathlib.Core.Path.{_≡_, refl, sym, _∙_, ap, ap₂}
+use mathlib.Core.Bool.{Bool, false, cond}
+use mathlib.Core.List.{List, [], _∷_, _++_, map}
+use Prim.Native.Nat.{ℕ, min, _+_, _≤_, _<_}
+use native.Mathlib.Omega.{arith}
+use borrow.Author.Tests.{lt-leb}
+use lib.Dec.{leb}
+use Rattle.engine.specs.Held.{Advertisement}
+use Rattle.engine.specs.Records.{Record, flat, isDue, replyRecords, dueRecords}
+use Rattle.engine.specs.Replies.{sumOf, sooner, soonest, servedNeed, served, isAlone, isGroup, aloneAt, groupAt}
+use Rattle.engine.specs.declared.advertisement.ResponseNeeded.{ResponseNeeded}
+use Rattle.engine.specs.declared.advertisement.ResponseNeeded.the-variants.{None, Multicast, Unicast}
+
+not-yet : (due time : ℕ) → time < due → leb due time ≡ false
+not-yet due time h = lt-leb due time h
+
+module _ (time : ℕ) where
+  sooner-most : (t : ℕ) (n : ResponseNeeded) → time < sooner t n → time < t
+  sooner-most t None h = h
+  sooner-most t (Multicast due) h = omega arith
+  sooner-most t (Unicast due sender receiver) h = omega arith
+
+  not-due : (t : ℕ) (n : ResponseNeeded) → time < sooner t n → isDue time n ≡ false
+  not-due t None h = refl
+  not-due t (Multicast due) h = not-yet due time (omega arith)
+  not-due t (Unicast due sender receiver) h = not-yet due time (omega arith)
+
+  pub soonest-most : (t : ℕ) (l : List Advertisement) → time < soonest t l → time < t
+  unfolding soonest
+  soonest-most t [] h = h
+  soonest-most t (a ∷ l) h = sooner-most t (a .needed) (soonest-most (sooner t (a .needed)) l h)
+
+  here : (t : ℕ) (a : Advertisement) (l : List Advertisement) → time < soonest (sooner t (a .needed)) l → isDue time (a .needed) ≡ false
+  here t a l h = not-due t (a .needed) (soonest-most (sooner t (a .needed)) l h)
+
+  pub no-records : (up : List ℕ) (t : ℕ) (l : List Advertisement) → time < soonest t l → flat (dueRecords time up) l ≡ []
+  unfolding soonest flat dueRecords
+  no-records up t [] h = refl
+  no-records up t (a ∷ l) h =
+      ap₂ _++_ (ap (λ (b : Bool). cond b (replyRecords up a (a .needed)) []) (here t a l h)) (no-records up (sooner t (a .needed)) l h)
+
+  pub none-served : (t : ℕ) (l : List Advertisement) → time < soonest t l → map (served time) l ≡ l
+  unfolding soonest served
+  none-served t [] h = refl
+  none-served t (a ∷ l) h =
+      let e = here t a l h in
+      λ j. record { name = a .name; kind = a .kind; location = a .location; needed = servedNeed (e j) (a .needed); answer = a .answer }
+      ∷ none-served (sooner t (a .needed)) l h j
+
+  pub none-alone : (t : ℕ) (l : List Advertisement) → time < soonest t l → sumOf (aloneAt time) l ≡ 0
+  unfolding soonest sumOf aloneAt
+  none-alone t [] h = refl
+  none-alone t (a ∷ l) h =
+      ap₂ _+_ (ap (λ (b : Bool). cond b (isAlone (a .needed)) 0) (here t a l h)) (none-alone (sooner t (a .needed)) l h)
+
+  pub none-group : (t : ℕ) (l : List Advertisement) → time < soonest t l → sumOf (groupAt time) l ≡ 0
+  unfolding soonest sumOf groupAt
+  none-group t [] h = refl
+  none-group t (a ∷ l) h =
+      ap₂ _+_ (ap (λ (b : Bool). cond b (isGroup (a .needed)) 0) (here t a l h)) (none-group (sooner t (a .needed)) l h)

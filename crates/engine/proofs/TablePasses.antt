@@ -1,0 +1,238 @@
+-- Laws of loops over the names in their arrays: sums, the earliest instant, and a table of which each entry is changed in place.
+use mathlib.Core.Path.{_≡_, refl, sym, _∙_, ap}
+use mathlib.Core.Bool.{true, false, false≢true}
+use mathlib.Core.List.{List, [], _∷_, _++_, map, append-assoc, append-nil}
+use Prim.Native.Nat.{ℕ, suc, _+_, _≤_, _<_}
+use native.Mathlib.Numerals.{add-one}
+use native.Mathlib.Omega.{arith}
+use lib.ListN.{length, take, drop, set, getD, length-map, length-take, drop-of-length-le}
+use lib.Seq.{take-suc, drop-cons, set-at, getD-at, set-getD, take-all, length-take-le}
+use Rattle.text.specs.Bytes.{equal}
+use Rattle.message.specs.Build.{typeMax}
+use Rattle.engine.specs.Rows.{row}
+use Rattle.engine.specs.Delay.{delay}
+use Rattle.engine.specs.Target.{ssdpAll}
+use Rattle.engine.specs.Held.{Text, Advertisement}
+use Rattle.engine.specs.Calls.{Query}
+use Rattle.engine.specs.Records.{isDue}
+use Rattle.engine.specs.Replies as replies
+use Rattle.engine.specs.Replies.{sumOf, waits, sooner, soonest, isNone, answerType, askedNeed, askedAnswer, hits, asked, matchedBy, joinedBy, servedNeed, served, isAlone, isGroup, aloneAt, groupAt, result}
+use Rattle.engine.specs.Passes.{askedBy}
+use Rattle.engine.specs.Arrays.{numbersWidth, textsWidth, kindPlace, entryIn, replyAt, entryAt, nameCount, namesIn}
+use Rattle.engine.specs.Changes.{changeAt, blank, withActive, PassOne, PassAll, AskedBy}
+use Rattle.engine.specs.declared.advertisement.Endpoint.{Endpoint}
+use Rattle.engine.specs.declared.advertisement.ResponseNeeded.{ResponseNeeded}
+use Rattle.engine.specs.declared.advertisement.ResponseNeeded.the-variants.{None, Multicast, Unicast}
+use Rattle.engine.proofs.Slots.{map-append}
+use Rattle.engine.proofs.Passes.{Summing, sum-start, sum-turn, sum-over, soonest-turn, soonest-over}
+use Rattle.engine.proofs.Waits.{asked-parts}
+use Rattle.engine.proofs.NameRows.{next-is, none-left}
+
+-- ---- a row
+module _ (i : ℕ) (ns ts : List ℕ) where
+  pub needed-is : {n : ResponseNeeded} → n ≡ replyAt i ns → n ≡ entryAt i ns ts .needed
+  unfolding entryIn
+  needed-is e = e
+
+  pub kind-few : {k : Text} → k ≡ entryAt i ns ts .kind → length k ≤ typeMax
+  unfolding entryIn
+  kind-few e =
+      let r = row numbersWidth i ns in
+      let q = row textsWidth i ts in
+      omega (arith, ap length e, length-take (getD r 1 0) (take typeMax (drop kindPlace q)), length-take typeMax (drop kindPlace q))
+
+-- ---- the waiting replies: how many there are of the entries so far, and the earliest instant with theirs
+pub record Waiting (time : ℕ) (l : List Advertisement) (i sum poll : ℕ) : Type 0 where
+  pub many : Summing (λ a. waits (a .needed)) l i (drop i l) sum
+  pub soon : soonest time l ≡ soonest poll (drop i l)
+
+pub waiting-start : (time : ℕ) (l : List Advertisement) → Waiting time l 0 0 time
+waiting-start time l = record { many = sum-start (λ a. waits (a .needed)) l; soon = refl }
+
+module _ (time : ℕ) (head ns ts : List ℕ) where
+  pub waiting-turn : {i sum poll one poll′ : ℕ} {n : ResponseNeeded} → i < nameCount head → n ≡ replyAt i ns → (one ≡ waits n) × (one ≤ 1) → poll′ ≡ sooner poll n
+      → Waiting time (namesIn head ns ts) i sum poll → Waiting time (namesIn head ns ts) (i + 1) (sum + one) poll′
+  waiting-turn {i} {sum} {poll} h e x s g =
+      let n = next-is head ns ts i h in
+      let d = needed-is i ns ts e in
+      record {
+        many = sum-turn (λ a. waits (a .needed)) (namesIn head ns ts) n (x .0 ∙ ap waits d, x .1) (g .many);
+        soon = soonest-turn poll n (s ∙ ap (sooner poll) d) (g .soon);
+      }
+
+  pub waiting-over : {i sum poll : ℕ} → nameCount head ≤ i → Waiting time (namesIn head ns ts) i sum poll
+      → (sum ≡ replies.waiting (namesIn head ns ts)) × (poll ≡ soonest time (namesIn head ns ts))
+  unfolding replies.waiting
+  waiting-over {i} h g =
+      let z = none-left head ns ts i h in
+      (sum-over (λ a. waits (a .needed)) (namesIn head ns ts) z (g .many), soonest-over z (g .soon))
+
+-- ---- a pass over a list in place: the entries before the i-th are replaced and counted, and the others are as they came
+module _ {A : Type 0} (f : A → A) (g h : A → ℕ) (d : A) (l : List A) where
+  abbrev passed : ℕ → List A
+  passed i = map f (take i l) ++ drop i l
+
+  pub record Passing (i : ℕ) (t : List A) (m n : ℕ) : Type 0 where
+    pub done : t ≡ passed i
+    pub first : sumOf g l ≡ m + sumOf g (drop i l)
+    pub second : sumOf h l ≡ n + sumOf h (drop i l)
+    pub few : (m ≤ i) × (n ≤ i)
+
+  pub pass-start : Passing 0 l 0 0
+  pass-start = record { done = refl; first = omega arith; second = omega arith; few = (omega arith, omega arith) }
+
+  module _ (i : ℕ) (lt : i < length l) where
+    here : passed i ≡ map f (take i l) ++ (getD l i d ∷ drop (suc i) l)
+    here = ap (λ (t : List A). map f (take i l) ++ t) (drop-cons l i d lt)
+
+    before : length (map f (take i l)) ≡ i
+    before = length-map (take i l) f ∙ length-take-le i l (omega arith)
+
+    same : getD (passed i) i d ≡ getD l i d
+    same = ap (λ (t : List A). getD t i d) here ∙ getD-at (map f (take i l)) (getD l i d) (drop (suc i) l) d i before
+
+    next : set (passed i) i (f (getD (passed i) i d)) ≡ passed (suc i)
+    next =
+        (λ j. set (here j) i (f (same j)))
+        ∙ set-at (map f (take i l)) (getD l i d) (drop (suc i) l) (f (getD l i d)) i before
+        ∙ sym (append-assoc (map f (take i l)) (f (getD l i d) ∷ []) (drop (suc i) l))
+        ∙ ap (λ (t : List A). t ++ drop (suc i) l) (sym (ap (map f) (take-suc l i d lt) ∙ map-append f (take i l) (getD l i d ∷ [])))
+
+    sum-more : (k : A → ℕ) → sumOf k (drop i l) ≡ k (getD l i d) + sumOf k (drop (suc i) l)
+    unfolding sumOf
+    sum-more k = ap (sumOf k) (drop-cons l i d lt)
+
+    pub pass-turn : {t t′ : List A} {m n x y : ℕ} → PassOne f g h d i t t′ x y → Passing i t m n → Passing (i + 1) t′ (m + x) (n + y)
+    pass-turn {t} {t′} {m} {n} {x} {y} o p =
+        let v : getD t i d ≡ getD l i d = ap (λ (u : List A). getD u i d) (p .done) ∙ same in
+        let a : sumOf g l ≡ (m + x) + sumOf g (drop (suc i) l) = omega (arith, p .first, sum-more g, o .first .0, ap g v) in
+        let b : sumOf h l ≡ (n + y) + sumOf h (drop (suc i) l) = omega (arith, p .second, sum-more h, o .second .0, ap h v) in
+        let r : Passing (suc i) t′ (m + x) (n + y) =
+        record {
+          done = o .table ∙ ap (λ (u : List A). set u i (f (getD u i d))) (p .done) ∙ next;
+          first = a;
+          second = b;
+          few = (omega (arith, p .few .0, o .first .1), omega (arith, p .few .1, o .second .1));
+        }
+        in
+        rw (add-one i) r
+
+  pub pass-over : {i : ℕ} {t : List A} {m n : ℕ} → length l ≤ i → Passing i t m n → PassAll f g h l t m n
+  unfolding sumOf
+  pass-over {i} {t} {m} {n} le p =
+      let e : drop i l ≡ [] = drop-of-length-le l {i = i} le in
+      let a : sumOf g (drop i l) ≡ 0 = ap (sumOf g) e in
+      let b : sumOf h (drop i l) ≡ 0 = ap (sumOf h) e in
+      record {
+        table = p .done ∙ (λ j. map f (take-all i l le j) ++ e j) ∙ append-nil (map f l);
+        first = omega (arith, p .first);
+        second = omega (arith, p .second);
+      }
+
+-- ---- one entry: a search
+module _ (due : ℕ) (q : Query) (a : Advertisement) where
+  asked-with : {n : ResponseNeeded} {t : Text} → n ≡ askedNeed (hits q a) due q (a .needed) → t ≡ askedAnswer (hits q a) q (a .kind) (a .needed) (a .answer)
+      → withActive n t a ≡ asked due q a
+  unfolding asked
+  asked-with p r = λ i. record { name = a .name; kind = a .kind; location = a .location; needed = p i; answer = r i }
+
+  -- with what was read of it
+  pub asked-entry : {m n : ResponseNeeded} {k t u : Text} → m ≡ a .needed → u ≡ a .answer → k ≡ a .kind → n ≡ askedNeed true due q m → t ≡ askedAnswer true q k m u
+      → hits q a ≡ true → withActive n t a ≡ asked due q a
+  asked-entry e v w p r f =
+      asked-with (rw f (p ∙ ap (askedNeed true due q) e)) (rw f (r ∙ (λ i. askedAnswer true q (w i) (e i) (v i))))
+
+  module _ {l : List Advertisement} {i : ℕ} (here : getD l i blank ≡ a) where
+    pub ask-hit : {l′ : List Advertisement} {n : ResponseNeeded} {t : Text} {w : ℕ} → hits q a ≡ true → withActive n t a ≡ asked due q a
+        → l′ ≡ changeAt blank i (withActive n t) l → (w ≡ waits (a .needed)) × (w ≤ 1) → PassOne (asked due q) (matchedBy q) (joinedBy q) blank i l l′ 1 w
+    unfolding matchedBy joinedBy
+    ask-hit {n = n} {t = t} f p e x =
+        let m : 1 ≡ matchedBy q a = rw f in
+        let j : waits (a .needed) ≡ joinedBy q a = rw f in
+        record {
+          table = e ∙ ap (λ (y : Advertisement). set l i y) (ap (withActive n t) here ∙ p ∙ ap (asked due q) (sym here));
+          first = (m ∙ ap (matchedBy q) (sym here), omega arith);
+          second = (x .0 ∙ j ∙ ap (joinedBy q) (sym here), x .1);
+        }
+
+    pub ask-miss : hits q a ≡ false → PassOne (asked due q) (matchedBy q) (joinedBy q) blank i l l 0 0
+    unfolding matchedBy joinedBy
+    ask-miss f =
+        let m : 0 ≡ matchedBy q a = rw f in
+        let j : 0 ≡ joinedBy q a = rw f in
+        let p : a ≡ asked due q a = asked-with (rw f) (rw f) in
+        record {
+          table = sym (set-getD l i blank) ∙ ap (λ (y : Advertisement). set l i y) (here ∙ p ∙ ap (asked due q) (sym here));
+          first = (m ∙ ap (matchedBy q) (sym here), omega arith);
+          second = (j ∙ ap (joinedBy q) (sym here), omega arith);
+        }
+
+-- the reply depends on the sender and the receiver alone, and the answer type changes where one opens
+pub need-of : (due : ℕ) (target : Text) (sender : Endpoint) (receiver : ℕ) (n : ResponseNeeded)
+    → askedNeed true due (askedBy [] sender receiver) n ≡ askedNeed true due (askedBy target sender receiver) n
+need-of due target sender receiver None = refl
+need-of due target sender receiver (Multicast d) = refl
+need-of due target sender receiver (Unicast d s r) = refl
+
+module _ (q : Query) (kind answer : Text) where
+  pub opened-type : (n : ResponseNeeded) → isNone n ≡ true → answerType (q .target) kind ≡ askedAnswer true q kind n answer
+  opened-type None e = refl
+  opened-type (Multicast d) e = absurd (false≢true e)
+  opened-type (Unicast d s r) e = absurd (false≢true e)
+
+  pub kept-type : (n : ResponseNeeded) → isNone n ≡ false → answer ≡ askedAnswer true q kind n answer
+  kept-type None e = absurd (false≢true (sym e))
+  kept-type (Multicast d) e = refl
+  kept-type (Unicast d s r) e = refl
+
+module _ (target kind : Text) where
+  pub own-type : equal target ssdpAll ≡ true → kind ≡ answerType target kind
+  own-type e = rw e
+
+  pub target-type : equal target ssdpAll ≡ false → target ≡ answerType target kind
+  target-type e = rw e
+
+-- a search on all: replies depend on its target, sender and receiver alone
+pub asked-by : {l l′ : List Advertisement} {m n : ℕ} (seed due : ℕ) (q : Query) → due ≡ q .time + delay seed (q .mx)
+    → PassAll (asked due (askedBy (q .target) (q .sender) (q .receiver))) (matchedBy (askedBy (q .target) (q .sender) (q .receiver))) (joinedBy (askedBy (q .target) (q .sender) (q .receiver))) l l′ m n
+    → AskedBy seed q l l′ m n
+unfolding result matchedBy joinedBy
+asked-by {l} seed due q e a = record {
+  table = a .table ∙ asked-parts due q l ∙ ap (λ (d : ℕ). map (asked d q) l) e;
+  matched = a .first;
+  joined = a .second;
+}
+
+-- ---- one entry: a handle_timeout
+module _ (time : ℕ) (a : Advertisement) where
+  served-with : {n : ResponseNeeded} → n ≡ servedNeed (isDue time (a .needed)) (a .needed) → withActive n (a .answer) a ≡ served time a
+  unfolding served
+  served-with p = λ i. record { name = a .name; kind = a .kind; location = a .location; needed = p i; answer = a .answer }
+
+  module _ {l : List Advertisement} {i : ℕ} (here : getD l i blank ≡ a) {n : ResponseNeeded} (e : n ≡ a .needed) where
+    pub serve-due : {l′ : List Advertisement} {x y : ℕ} → isDue time n ≡ true → l′ ≡ changeAt blank i (λ b. withActive None (b .answer) b) l
+        → (x ≡ isAlone n) × (x ≤ 1) → (y ≡ isGroup n) × (y ≤ 1) → PassOne (served time) (aloneAt time) (groupAt time) blank i l l′ x y
+    unfolding aloneAt groupAt
+    serve-due d p x y =
+        let f : isDue time (a .needed) ≡ true = ap (isDue time) (sym e) ∙ d in
+        let s : withActive None (a .answer) a ≡ served time a = served-with (rw f) in
+        let u : isAlone (a .needed) ≡ aloneAt time a = rw f in
+        let v : isGroup (a .needed) ≡ groupAt time a = rw f in
+        record {
+          table = p ∙ ap (λ (b : Advertisement). set l i b) (ap (λ (b : Advertisement). withActive None (b .answer) b) here ∙ s ∙ ap (served time) (sym here));
+          first = (x .0 ∙ ap isAlone e ∙ u ∙ ap (aloneAt time) (sym here), x .1);
+          second = (y .0 ∙ ap isGroup e ∙ v ∙ ap (groupAt time) (sym here), y .1);
+        }
+
+    pub serve-later : isDue time n ≡ false → PassOne (served time) (aloneAt time) (groupAt time) blank i l l 0 0
+    unfolding aloneAt groupAt
+    serve-later d =
+        let f : isDue time (a .needed) ≡ false = ap (isDue time) (sym e) ∙ d in
+        let s : a ≡ served time a = served-with (rw f) in
+        let u : 0 ≡ aloneAt time a = rw f in
+        let v : 0 ≡ groupAt time a = rw f in
+        record {
+          table = sym (set-getD l i blank) ∙ ap (λ (b : Advertisement). set l i b) (here ∙ s ∙ ap (served time) (sym here));
+          first = (u ∙ ap (aloneAt time) (sym here), omega arith);
+          second = (v ∙ ap (groupAt time) (sym here), omega arith);
+        }

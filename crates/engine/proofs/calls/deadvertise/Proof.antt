@@ -1,0 +1,119 @@
+-- `calls::deadvertise` meets its contract: refused, or with the byebyes of a held name sent and the name gone.
+use mathlib.Core.Path.{_∙_, _≡_, ap, refl, sym}
+use mathlib.Core.List.{[]}
+use Rattle.engine.proofs.Accepted.{passed}
+use Rattle.engine.specs.Arrays.{headPlaces, heldIn, linksIn, numbersSize, tables, textsSize}
+use Rattle.engine.specs.Calls.{Deadvertise, acts}
+use Rattle.engine.specs.Engine.{namesOf, tells, turned}
+use Rattle.engine.specs.Links.{contextAfter, upAddresses}
+use Rattle.engine.specs.Records.{records}
+use Rattle.engine.specs.Refusals.{checks}
+use Rattle.engine.specs.Replies.{drops, result, results}
+use Rattle.engine.specs.Sizes.{outboxSize}
+use borrow.Author.Needs.{needs}
+use borrow.Author.Tests.{ltb-false}
+use lib.ListN.{length}
+use native.Mathlib.Omega.{arith}
+use Rattle.engine.proofs.Answering as answering
+use Rattle.engine.proofs.Lending as lending
+use Rattle.engine.proofs.calls.deadvertise.Statement.{statement}
+use Rattle.engine.proofs.calls.deadvertise.Tie as tie
+
+of-room-requires : tie.Need-of-room-requires
+of-room-requires c κs = search needs
+
+refused-requires : tie.Need-refused-requires
+refused-requires c κs = search needs
+
+returns : tie.Need-returns
+unfolding turned namesOf
+returns c searches =
+    let at-if1 = c .before .before .before .before .before in
+    let at-of-room = at-if1 .before in
+    let a = at-of-room .before .before .before .args in
+    lending.refused-answers (tables (a .head .now) (a .links .now) searches (a .numbers .now) (a .texts .now)) (Deadvertise (a .name .now) (length (a .outbox .now))) _ _ (at-of-room .of-room .result) (sym (at-of-room .of-room .ensures _ _ refl .1 (a .name .now))) (at-if1 .if1 .taken) (c .refused .ensures _ searches _)
+
+spot-of-requires : tie.Need-spot-of-requires
+spot-of-requires c κs = search needs
+
+byebye-if-requires : tie.Need-byebye-if-requires
+unfolding checks namesOf
+byebye-if-requires c κs =
+    let at-byebye-if-arg4 = c .before .before .before .before in
+    let at-byebye-if-arg3 = at-byebye-if-arg4 .before in
+    let at-spot-of = at-byebye-if-arg3 .before .before .before in
+    let at-if1 = at-spot-of .before .before .before .before .before .before .before in
+    let at-of-room = at-if1 .before in
+    let a = at-of-room .before .before .before .args in
+    let t = tables (a .head .now) (a .links .now) [] (a .numbers .now) (a .texts .now) in
+    let call = Deadvertise (a .name .now) (length (a .outbox .now)) in
+    let p = passed (heldIn t .context) (namesOf (heldIn t) call) call (sym (at-of-room .of-room .ensures _ _ refl .1 (a .name .now)) ∙ at-if1 .if1 .left) in
+    let at = lending.spot-lt (a .head .now) (a .numbers .now) (a .texts .now) (a .name .now) (at-spot-of .spot-of .result) (at-spot-of .spot-of .ensures) in (
+      (omega (arith, at-byebye-if-arg3 .byebye-if-arg3 .given .0), omega (arith, at-byebye-if-arg4 .byebye-if-arg4 .given .0)),
+      (omega (arith, c .before .before .byebye-if-arg6 .given .0), omega (arith, c .byebye-if-arg8 .given .0)),
+      λ k. let b = at k in omega arith,
+      omega (arith, ltb-false (length (a .outbox .now)) outboxSize (p .0)),
+    )
+
+dropped-at-requires : tie.Need-dropped-at-requires
+dropped-at-requires c κs =
+    let at-spot-of = c .before .before .before .before .before .before .before .before .before .before .before .before .before in
+    let a = at-spot-of .before .before .before .before .before .before .before .before .before .before .before .args in
+    let at = lending.spot-lt (a .head .now) (a .numbers .now) (a .texts .now) (a .name .now) (at-spot-of .spot-of .result) (at-spot-of .spot-of .ensures) in
+    (omega arith, λ k. let b = at k in omega arith)
+
+leave-requires : tie.Need-leave-requires
+leave-requires c κs =
+    let at-spot-of = c .before .before .before .before .before .before .before .before .before .before .before .before .before .before .before .before .before .before in
+    let a = at-spot-of .before .before .before .before .before .before .before .before .before .before .before .args in
+    let numbers : length (a .numbers .now) ≡ numbersSize = omega arith in
+    let texts : length (a .texts .now) ≡ textsSize = omega arith in
+    (omega arith, (numbers, texts), lending.spot-lt (a .head .now) (a .numbers .now) (a .texts .now) (a .name .now) (at-spot-of .spot-of .result) (at-spot-of .spot-of .ensures))
+
+set-count-requires : tie.Need-set-count-requires
+set-count-requires c κs = search needs
+
+dropping-requires : tie.Need-dropping-requires
+dropping-requires c κs = search needs
+
+accepted-requires : tie.Need-accepted-requires
+accepted-requires c κs = search needs
+
+same-length : tie.Need-same-length
+same-length c = c .before .before .before .before .before .before .before .before .before .before .before .before .before .before .before .before .before .before .byebye-if .kept .0
+
+returns-2 : tie.Need-returns-2
+unfolding turned namesOf heldIn contextAfter acts results records tells result checks
+returns-2 c searches =
+    let at-set-count = c .before .before .before .before .before .before in
+    let at-leave = at-set-count .before .before in
+    let at-dropped-at = at-leave .before .before .before .before .before in
+    let at-byebye-if = at-dropped-at .before .before .before .before .before in
+    let at-spot-of = at-byebye-if .before .before .before .before .before .before .before .before .before in
+    let at-spot-of-arg2 = at-spot-of .before .before .before .before .before in
+    let at-if1 = at-spot-of-arg2 .before .before in
+    let at-of-room = at-if1 .before in
+    let a = at-of-room .before .before .before .args in
+    let size : length (a .head .now) ≡ headPlaces = omega (arith, at-spot-of-arg2 .spot-of-arg2 .given .0) in
+    lending.done-answers (tables (a .head .now) (a .links .now) searches (a .numbers .now) (a .texts .now)) _ (Deadvertise (a .name .now) (length (a .outbox .now))) (at-byebye-if .byebye-if .result) _ _ (sym (at-of-room .of-room .ensures _ _ refl .1 (a .name .now)) ∙ at-if1 .if1 .left)
+    (lending.names-changed (a .head .now) (a .links .now) searches (a .numbers .now) (a .texts .now) size (at-leave .leave .result) _ (at-set-count .set-count .ensures) (at-leave .leave .ensures (a .name .now) (at-spot-of .spot-of .ensures)))
+    (c .before .dropping .ensures .0 ∙ ap drops (at-dropped-at .dropped-at .ensures ∙ lending.dropped-is (a .head .now) (a .numbers .now) (a .texts .now) (a .name .now) (at-spot-of .spot-of .result) (at-spot-of .spot-of .ensures)) ∙ sym (answering.plus-zeros (drops _))) (c .before .dropping .ensures .1)
+    (answering.sent-as (at-byebye-if .byebye-if .ensures) (lending.byebyes-are (a .head .now) (a .numbers .now) (a .texts .now) (a .name .now) (at-spot-of .spot-of .result) (at-spot-of .spot-of .ensures) (upAddresses (linksIn (a .head .now) (a .links .now)))))
+    (c .accepted .ensures _ searches _)
+
+pub deadvertise-spec : {M : Type 1} → statement M
+deadvertise-spec =
+    tie.close
+    (tie.spec
+    of-room-requires
+    refused-requires
+    returns
+    spot-of-requires
+    byebye-if-requires
+    dropped-at-requires
+    leave-requires
+    set-count-requires
+    dropping-requires
+    accepted-requires
+    same-length
+    returns-2)

@@ -1,0 +1,129 @@
+-- `calls::new_address` meets its contract: refused, or with the links after the news, and an address that was stored on an up link sent from.
+use mathlib.Core.Path.{_∙_, _≡_, ap, refl, sym}
+use mathlib.Core.Bool.{_&&_, cond}
+use mathlib.Core.List.{[]}
+use Prim.Native.Nat.{_≤_}
+use Rattle.engine.proofs.Accepted.{passed}
+use Rattle.engine.specs.Arrays.{headPlaces, heldIn, linksIn, namesIn, searchesIn, tables}
+use Rattle.engine.specs.Calls.{NewAddress, acts}
+use Rattle.engine.specs.Engine.{namesOf, tells, turned}
+use Rattle.engine.specs.Links.{contextAfter}
+use Rattle.engine.specs.Records.{addressRecords, allFrom, records}
+use Rattle.engine.specs.Refusals.{checks}
+use Rattle.engine.specs.Replies.{results}
+use Rattle.engine.specs.Sizes.{outboxSize}
+use borrow.Author.Needs.{needs}
+use borrow.Author.Tests.{ltb-false}
+use lib.ListN.{length}
+use native.Mathlib.Omega.{arith}
+use Rattle.engine.proofs.Answering as answering
+use Rattle.engine.proofs.Lending as lending
+use Rattle.engine.proofs.calls.new_address.Statement.{statement}
+use Rattle.engine.proofs.calls.new_address.Tie as tie
+
+held-at-requires : tie.Need-held-at-requires
+held-at-requires c κs = search needs
+
+is-stored-requires : tie.Need-is-stored-requires
+is-stored-requires c κs = search needs
+
+count-of-requires : tie.Need-count-of-requires
+count-of-requires c κs = search needs
+
+of-new-address-requires : tie.Need-of-new-address-requires
+of-new-address-requires c κs = search needs
+
+refused-requires : tie.Need-refused-requires
+refused-requires c κs = search needs
+
+returns : tie.Need-returns
+unfolding turned namesOf heldIn
+returns c =
+    let at-if1 = c .before .before .before .before in
+    let at-of-new-address = at-if1 .before in
+    let at-count-of = at-of-new-address .before in
+    let at-is-stored = at-count-of .before in
+    let at-held-at = at-is-stored .before .before in
+    let a = at-held-at .before .before .before .before .before .before .before .args in
+    lending.refused-answers (tables (a .head .now) (a .links .now) (a .searches .now) (a .numbers .now) (a .texts .now)) (NewAddress (a .index) (a .address .now) (length (a .outbox .now))) _ _ (at-of-new-address .of-new-address .result) (sym (at-of-new-address .of-new-address .ensures _ _ (sym (at-is-stored .is-stored .ensures (a .index) (linksIn (a .head .now) (a .links .now)) (at-held-at .held-at .ensures))) (sym (at-count-of .count-of .ensures ∙ ap length (at-held-at .held-at .ensures .addresses))) refl)) (at-if1 .if1 .taken) (c .refused .ensures _ _ _)
+
+number-of-requires : tie.Need-number-of-requires
+number-of-requires c κs = search needs
+
+send-if-stored-requires : tie.Need-send-if-stored-requires
+unfolding checks namesOf heldIn
+send-if-stored-requires c κs =
+    let at-send-if-stored-arg3 = c .before .before .before in
+    let at-if1 = at-send-if-stored-arg3 .before .before .before .before .before in
+    let at-of-new-address = at-if1 .before in
+    let at-count-of = at-of-new-address .before in
+    let at-is-stored = at-count-of .before in
+    let at-held-at = at-is-stored .before .before in
+    let a = at-held-at .before .before .before .before .before .before .before .args in
+    let t = tables (a .head .now) (a .links .now) (a .searches .now) (a .numbers .now) (a .texts .now) in
+    let call = NewAddress (a .index) (a .address .now) (length (a .outbox .now)) in
+    let p = passed (heldIn t .context) (namesOf (heldIn t) call) call (sym (at-of-new-address .of-new-address .ensures _ _ (sym (at-is-stored .is-stored .ensures (a .index) (linksIn (a .head .now) (a .links .now)) (at-held-at .held-at .ensures))) (sym (at-count-of .count-of .ensures ∙ ap length (at-held-at .held-at .ensures .addresses))) refl) ∙ at-if1 .if1 .left) in
+    let room : outboxSize ≤ length (a .outbox .now) = omega (arith, ltb-false (length (a .outbox .now)) outboxSize (p .0)) in
+    ((omega (arith, at-send-if-stored-arg3 .send-if-stored-arg3 .given .0), omega (arith, c .before .before .send-if-stored-arg4 .given .0)), (omega (arith, c .before .send-if-stored-arg5 .given .0), omega (arith, c .send-if-stored-arg6 .given .0)), room)
+
+address-told-requires : tie.Need-address-told-requires
+address-told-requires c κs = search needs
+
+set-count-requires : tie.Need-set-count-requires
+set-count-requires c κs = search needs
+
+nothing-requires : tie.Need-nothing-requires
+nothing-requires c κs = search needs
+
+accepted-requires : tie.Need-accepted-requires
+accepted-requires c κs = search needs
+
+same-length : tie.Need-same-length
+same-length c = search needs
+
+returns-2 : tie.Need-returns-2
+unfolding turned namesOf heldIn contextAfter acts results records tells checks addressRecords
+returns-2 c =
+    let at-set-count = c .before .before .before .before .before in
+    let at-address-told = at-set-count .before .before in
+    let at-send-if-stored = at-address-told .before .before .before .before .before .before in
+    let at-number-of = at-send-if-stored .before .before .before .before .before .before .before .before in
+    let at-if1 = at-number-of .before in
+    let at-of-new-address = at-if1 .before in
+    let at-count-of = at-of-new-address .before in
+    let at-is-stored = at-count-of .before in
+    let at-held-at = at-is-stored .before .before in
+    let at-held-at-arg2 = at-held-at .before .before .before in
+    let a = at-held-at-arg2 .before .before .before .before .args in
+    let size : length (a .head .now) ≡ headPlaces = omega (arith, at-held-at-arg2 .held-at-arg2 .given .0) in
+    let t = tables (a .head .now) (a .links .now) (a .searches .now) (a .numbers .now) (a .texts .now) in
+    let call = NewAddress (a .index) (a .address .now) (length (a .outbox .now)) in
+    let number = sym (at-of-new-address .of-new-address .ensures _ _ (sym (at-is-stored .is-stored .ensures (a .index) (linksIn (a .head .now) (a .links .now)) (at-held-at .held-at .ensures))) (sym (at-count-of .count-of .ensures ∙ ap length (at-held-at .held-at .ensures .addresses))) refl) ∙ at-if1 .if1 .left in
+    let p = passed (heldIn t .context) (namesOf (heldIn t) call) call number in
+    let links = linksIn (a .head .now) (a .links .now) in
+    let sends = allFrom (searchesIn (a .head .now) (a .searches .now)) (namesIn (a .head .now) (a .numbers .now) (a .texts .now)) in
+    lending.done-answers t _ call (at-send-if-stored .send-if-stored .result) _ _ number
+    (lending.links-changed (a .head .now) (a .links .now) (a .searches .now) (a .numbers .now) (a .texts .now) size (at-address-told .address-told .result) _ (at-set-count .set-count .ensures) (at-address-told .address-told .ensures (a .index) (at-held-at .held-at .ensures) (p .1 .1 .1 .0)))
+    (c .before .nothing .ensures .0) (c .before .nothing .ensures .1)
+    (answering.sent-as (at-send-if-stored .send-if-stored .ensures)
+    (λ i. cond (at-is-stored .is-stored .ensures (a .index) links (at-held-at .held-at .ensures) i && at-held-at .held-at .ensures .up i) (sends (at-number-of .number-of .ensures i)) []))
+    (c .accepted .ensures _ _ _)
+
+pub new-address-spec : {M : Type 1} → statement M
+new-address-spec =
+    tie.close
+    (tie.spec
+    held-at-requires
+    is-stored-requires
+    count-of-requires
+    of-new-address-requires
+    refused-requires
+    returns
+    number-of-requires
+    send-if-stored-requires
+    address-told-requires
+    set-count-requires
+    nothing-requires
+    accepted-requires
+    same-length
+    returns-2)

@@ -1,0 +1,566 @@
+// The calls over the arrays that an owner lends: document 01, 'Engine and ledger' and 'Who can be turned away'. Each is lent what it needs and changes it in place;
+// each contract is `Answering` of specs/Promises.antt at that call, for every content of the arrays.
+use crate::address;
+use crate::advertisement::Endpoint;
+use crate::engine::Answer;
+use crate::engine::Tally;
+use crate::engine::asking;
+use crate::engine::dropping;
+use crate::engine::leaving;
+use crate::engine::nothing;
+use crate::engine::sending;
+use crate::engine::telling;
+use crate::flags::Flags;
+use crate::head::begin;
+use crate::head::seed_in;
+use crate::head::set_count;
+use crate::head::set_timer;
+use crate::head::timer_in;
+use crate::link_news;
+use crate::links;
+use crate::names;
+use crate::pending::searched;
+use crate::pending::serve_all;
+use crate::pending::waits_in;
+use crate::reading::Reading;
+use crate::reading::Subject;
+use crate::reading::number_of;
+use crate::reading::reading_of;
+use crate::refresh_timer::RefreshTimer;
+use crate::refusals;
+use crate::replies::wait_of;
+use crate::rolling::rolled;
+use crate::searches;
+use crate::send;
+use crate::sends;
+use crate::sizes::Head;
+use crate::sizes::LINK_COUNT;
+use crate::sizes::Links;
+use crate::sizes::NAME_COUNT;
+use crate::sizes::Numbers;
+use crate::sizes::SEARCH_COUNT;
+use crate::sizes::Searches;
+use crate::sizes::Texts;
+use crate::sources::of_up_links;
+use crate::table::Spot;
+use text::white::Place;
+ghost use mathlib.Core.Path.{_≡_};
+ghost use mathlib.Core.Bool.{true, false, cond, not, _&&_};
+ghost use mathlib.Core.List.{List, []};
+ghost use Prim.Native.Nat.{ℕ, _≤_, _<_};
+ghost use lib.Dec.{leb};
+ghost use lib.ListN.{length};
+ghost use Rattle.message.specs.Parse.{parsed};
+ghost use Rattle.message.specs.Build.{typeMax, nameMax};
+ghost use Rattle.message.specs.declared.Message.the-variants.{Search};
+ghost use Rattle.engine.specs.Sizes.{advertisementsMax, locationMax, outboxSize, timeMax};
+ghost use Rattle.engine.specs.Table.{known, enter, leave};
+ghost use Rattle.engine.specs.Spot.{Spotted};
+ghost use Rattle.engine.specs.Held.{Text, advertised};
+ghost use Rattle.engine.specs.Links.{upAddresses};
+ghost use Rattle.engine.specs.Records.{byebyeOn};
+ghost use Rattle.engine.specs.Layout.{Sent};
+ghost use Rattle.engine.specs.Replies.{waits, newcomer};
+ghost use Rattle.engine.specs.Reading.{readingOf};
+ghost use Rattle.engine.specs.declared.reading.Reading.the-variants.{Of};
+ghost use Rattle.engine.specs.declared.reading.Subject.the-variants.{Notice};
+ghost use Rattle.engine.specs.Calls.{NewLink, DeletedLink, NewAddress, DeletedAddress, Subscribe, Advertise, Deadvertise, Refresh, Datagram, Timeout, ResetTimer};
+ghost use Rattle.engine.specs.Engine.{refusedBy, answerWith};
+ghost use Rattle.engine.specs.Tallies.{counted, toldBy};
+ghost use Rattle.engine.specs.Arrays.{headPlaces, numbersSize, linksIn, entryAt, replyAt, nameCount, namesIn, LinkArrays, SearchArrays, NameArrays, tables, heldIn};
+ghost use Rattle.engine.specs.Changes.{NamesAfter};
+ghost use Rattle.engine.specs.Promises.{Answering, Beginning};
+
+// The answer of an accepted call that leaves these arrays.
+fn accepted(head: &[u64], numbers: &[u64], records: usize, t: Tally) -> Answer
+    requires { ⌜ (length (now head) ≡ headPlaces) × (length (now numbers) ≡ numbersSize) ⌝ }
+    ensures { λ r. ⌜ ((links searches texts : List ℕ) → r ≡ answerWith 0 records (counted t) (heldIn (tables (now (head .entry)) links searches (now (numbers .entry)) texts)) (toldBy t)) ⌝ }
+{
+    let timer = timer_in(head);
+    let waits = waits_in(head, numbers, timer.next_salvo);
+    Answer {
+        refusal: 0,
+        records: records,
+        matched: t.matched,
+        joined: t.joined,
+        alone: t.alone,
+        group: t.group,
+        dropped: t.dropped,
+        waiting: waits.waiting,
+        poll: waits.poll,
+        mask: t.mask,
+        told: t.told,
+        leave: t.leave,
+    }
+}
+
+// The answer of a refused call.
+fn refused(head: &[u64], numbers: &[u64], number: u32) -> Answer
+    requires { ⌜ (length (now head) ≡ headPlaces) × (length (now numbers) ≡ numbersSize) ⌝ }
+    ensures { λ r. ⌜ ((links searches texts : List ℕ) → r ≡ refusedBy number (heldIn (tables (now (head .entry)) links searches (now (numbers .entry)) texts)) .answer) ⌝ }
+{
+    let timer = timer_in(head);
+    let waits = waits_in(head, numbers, timer.next_salvo);
+    Answer {
+        refusal: number,
+        records: 0,
+        matched: 0,
+        joined: 0,
+        alone: 0,
+        group: 0,
+        dropped: 0,
+        waiting: waits.waiting,
+        poll: waits.poll,
+        mask: 0,
+        told: 0,
+        leave: 0,
+    }
+}
+
+// The owner's first call, on arrays of any content. A time that no call may bear is refused, and leaves an engine with that seed at time 0.
+pub fn new(head: &mut Head, numbers: &Numbers, random_seed: u32, time: u64) -> Answer
+    ensures { λ r. ⌜ ((links searches texts : List ℕ) → Beginning «random_seed» time (tables (now (head .exit)) links searches (now (numbers .entry)) texts) r) ⌝ }
+{
+    let number = refusals::of_time(time);
+    let begun = RefreshTimer::new(random_seed, time);
+    let timer = begun.timer;
+    begin(head, timer);
+    if number != 0 {
+        return refused(head, numbers, number);
+    }
+    accepted(head, numbers, 0, nothing())
+}
+
+// Begins the refresh salvos anew, as after the network was away.
+pub fn reset_refresh_timer(head: &mut Head, numbers: &Numbers, time: u64) -> Answer
+    ensures { λ r. ⌜ ((links searches texts : List ℕ) → Answering (tables (now (head .entry)) links searches (now (numbers .entry)) texts) (ResetTimer time) [] [] (tables (now (head .exit)) links searches (now (numbers .entry)) texts) r) ⌝ }
+{
+    let number = refusals::of_time(time);
+    if number != 0 {
+        return refused(head, numbers, number);
+    }
+    let timer = timer_in(head);
+    let reset = timer.reset(time);
+    set_timer(head, reset.timer);
+    accepted(head, numbers, 0, nothing())
+}
+
+// Sends all announcements, then the searches.
+pub fn refresh(
+    head: &Head,
+    links: &Links,
+    searches: &Searches,
+    numbers: &Numbers,
+    texts: &Texts,
+    outbox: &mut [u8],
+) -> Answer
+    ensures { λ r. ⌜ Answering (tables (now (head .entry)) (now (links .entry)) (now (searches .entry)) (now (numbers .entry)) (now (texts .entry))) (Refresh (length (now (outbox .entry)))) (now (outbox .entry)) (now (outbox .exit)) (tables (now (head .entry)) (now (links .entry)) (now (searches .entry)) (now (numbers .entry)) (now (texts .entry))) r ⌝ }
+{
+    let number = refusals::of_room(outbox.len());
+    if number != 0 {
+        return refused(head, numbers, number);
+    }
+    let up = of_up_links(head, links);
+    let from = up.addresses;
+    let k = sends::send_refresh(outbox, from, up.count, head, searches, numbers, texts);
+    accepted(head, numbers, k, nothing())
+}
+
+// Searches for a type, now and at each refresh; notices of it are told of from now on.
+pub fn subscribe(
+    head: &mut Head,
+    links: &Links,
+    searches: &mut Searches,
+    numbers: &Numbers,
+    kind: &[u8],
+    outbox: &mut [u8],
+) -> Answer
+    ensures { λ r. ⌜ ((texts : List ℕ) → Answering (tables (now (head .entry)) (now (links .entry)) (now (searches .entry)) (now (numbers .entry)) texts) (Subscribe (now (kind .entry)) (length (now (outbox .entry)))) (now (outbox .entry)) (now (outbox .exit)) (tables (now (head .exit)) (now (links .entry)) (now (searches .exit)) (now (numbers .entry)) texts) r) ⌝ }
+{
+    let n = searches::count_of(head);
+    let number = refusals::of_subscribe(n, outbox.len(), kind);
+    if number != 0 {
+        return refused(head, numbers, number);
+    }
+    let up = of_up_links(head, links);
+    let from = up.addresses;
+    let k = send::send_search(outbox, from, up.count, kind);
+    searches::push(searches, n, kind);
+    set_count(head, SEARCH_COUNT, n + 1);
+    accepted(head, numbers, k, nothing())
+}
+
+// A link has gone; `outcome` is the host's from leaving the group on it, and is answered for a link that was held.
+pub fn deleted_link(
+    head: &mut Head,
+    links: &mut Links,
+    numbers: &Numbers,
+    index: u32,
+    outcome: u32,
+) -> Answer
+    ensures { λ r. ⌜ ((searches texts : List ℕ) → Answering (tables (now (head .entry)) (now (links .entry)) searches (now (numbers .entry)) texts) (DeletedLink index outcome) [] [] (tables (now (head .exit)) (now (links .exit)) searches (now (numbers .entry)) texts) r) ⌝ }
+{
+    let number = refusals::of_deleted_link(index);
+    if number != 0 {
+        return refused(head, numbers, number);
+    }
+    let spot = links::spot_of(head, links, index);
+    let n = links::left(head, links, index);
+    set_count(head, LINK_COUNT, n);
+    accepted(head, numbers, 0, leaving(spot.known, outcome))
+}
+
+// An address has gone.
+pub fn deleted_address(
+    head: &mut Head,
+    links: &mut Links,
+    numbers: &Numbers,
+    index: u32,
+    address: &[u8],
+) -> Answer
+    ensures { λ r. ⌜ ((searches texts : List ℕ) → Answering (tables (now (head .entry)) (now (links .entry)) searches (now (numbers .entry)) texts) (DeletedAddress index (now (address .entry))) [] [] (tables (now (head .exit)) (now (links .exit)) searches (now (numbers .entry)) texts) r) ⌝ }
+{
+    let number = refusals::of_deleted_address(index, address);
+    if number != 0 {
+        return refused(head, numbers, number);
+    }
+    let held = links::held_at(head, links, index);
+    let n = link_news::address_gone(head, links, held, address);
+    set_count(head, LINK_COUNT, n);
+    accepted(head, numbers, 0, nothing())
+}
+
+// A link is there, or is up or down. The host has tried to join the group on a new one and hands in the outcome.
+pub fn new_link(
+    head: &mut Head,
+    links: &mut Links,
+    searches: &Searches,
+    numbers: &Numbers,
+    texts: &Texts,
+    index: u32,
+    flags: u32,
+    outcome: u32,
+    outbox: &mut [u8],
+) -> Answer
+    ensures { λ r. ⌜ Answering (tables (now (head .entry)) (now (links .entry)) (now (searches .entry)) (now (numbers .entry)) (now (texts .entry))) (NewLink index flags outcome (length (now (outbox .entry)))) (now (outbox .entry)) (now (outbox .exit)) (tables (now (head .exit)) (now (links .exit)) (now (searches .entry)) (now (numbers .entry)) (now (texts .entry))) r ⌝ }
+{
+    let held = links::held_at(head, links, index);
+    let number = refusals::of_new_link(
+        Flags(flags).is_multicast(),
+        held.known,
+        links::count_of(head),
+        index,
+        outcome,
+        outbox.len(),
+    );
+    if number != 0 {
+        return refused(head, numbers, number);
+    }
+    let link = held.link;
+    let from = link.addresses;
+    let turns = link_news::turns_up(held, flags);
+    let k = sends::send_if_up(
+        outbox,
+        turns,
+        from,
+        link.count,
+        head,
+        searches,
+        numbers,
+        texts,
+    );
+    let n = link_news::link_told(head, links, held, flags);
+    set_count(head, LINK_COUNT, n);
+    accepted(head, numbers, k, nothing())
+}
+
+// An address is there.
+pub fn new_address(
+    head: &mut Head,
+    links: &mut Links,
+    searches: &Searches,
+    numbers: &Numbers,
+    texts: &Texts,
+    index: u32,
+    address: &[u8],
+    outbox: &mut [u8],
+) -> Answer
+    ensures { λ r. ⌜ Answering (tables (now (head .entry)) (now (links .entry)) (now (searches .entry)) (now (numbers .entry)) (now (texts .entry))) (NewAddress index (now (address .entry)) (length (now (outbox .entry)))) (now (outbox .entry)) (now (outbox .exit)) (tables (now (head .exit)) (now (links .exit)) (now (searches .entry)) (now (numbers .entry)) (now (texts .entry))) r ⌝ }
+{
+    let held = links::held_at(head, links, index);
+    let link = held.link;
+    let storing = link_news::is_stored(held, address);
+    let count = address::count_of(link);
+    let number = refusals::of_new_address(storing, count, index, address, outbox.len());
+    if number != 0 {
+        return refused(head, numbers, number);
+    }
+    let source = address::number_of(address);
+    let k = sends::send_if_stored(
+        outbox,
+        storing & link.up,
+        source,
+        head,
+        searches,
+        numbers,
+        texts,
+    );
+    let n = link_news::address_told(head, links, held, address);
+    set_count(head, LINK_COUNT, n);
+    accepted(head, numbers, k, nothing())
+}
+
+// How many replies of a name wait, by where it stands: what is dropped if it is replaced or removed.
+fn dropped_at(numbers: &[u64], spot: Spot) -> usize
+    requires { ⌜ (length (now numbers) ≡ numbersSize) × (spot .known ≡ true → spot .at < advertisementsMax) ⌝ }
+    ensures { λ r. ⌜ r ≡ cond (spot .known) (waits (replyAt (spot .at) (now (numbers .entry)))) 0 ⌝ }
+{
+    let at = spot.at;
+    if spot.known {
+        return wait_of(names::reply_at(numbers, at));
+    }
+    0
+}
+
+// A name, whose texts fit, in the place of the one that is held or as a new one, by where it stands. Answers how many are held then.
+fn enter(
+    head: &[u64],
+    numbers: &mut [u64],
+    texts: &mut [u8],
+    spot: Spot,
+    name: &[u8],
+    kind: &[u8],
+    location: &[u8],
+) -> usize
+    requires { ⌜ (length (now head) ≡ headPlaces) × NameArrays (now numbers) (now texts) × Spotted advertised (now name) (namesIn (now head) (now numbers) (now texts)) spot × (length (now name) ≤ nameMax) × (length (now kind) ≤ typeMax) × (length (now location) ≤ locationMax) × ((not (known advertised (now name) (namesIn (now head) (now numbers) (now texts))) && leb advertisementsMax (length (namesIn (now head) (now numbers) (now texts)))) ≡ false) ⌝ }
+    ensures { λ r. ⌜ NamesAfter r (now (numbers .exit)) (now (texts .exit)) (enter advertised (newcomer (now (name .entry)) (now (kind .entry)) (now (location .entry))) (namesIn (now (head .entry)) (now (numbers .entry)) (now (texts .entry)))) ⌝ }
+{
+    let n = names::count_of(head);
+    let at = spot.at;
+    if spot.known {
+        names::put_over(numbers, texts, n, at, name, kind, location);
+        return n;
+    }
+    names::put_in(numbers, texts, n, at, name, kind, location);
+    n + 1
+}
+
+// Announces a service under a name, now and at each refresh. A name that is held is replaced, and its waiting reply dropped.
+pub fn advertise(
+    head: &mut Head,
+    links: &Links,
+    numbers: &mut Numbers,
+    texts: &mut Texts,
+    name: &[u8],
+    kind: &[u8],
+    location: &[u8],
+    outbox: &mut [u8],
+) -> Answer
+    ensures { λ r. ⌜ ((searches : List ℕ) → Answering (tables (now (head .entry)) (now (links .entry)) searches (now (numbers .entry)) (now (texts .entry))) (Advertise (now (name .entry)) (now (kind .entry)) (now (location .entry)) (length (now (outbox .entry)))) (now (outbox .entry)) (now (outbox .exit)) (tables (now (head .exit)) (now (links .entry)) searches (now (numbers .exit)) (now (texts .exit))) r) ⌝ }
+{
+    let spot = names::spot_of(head, numbers, texts, name);
+    let count = names::count_of(head);
+    let number = refusals::of_advertise(spot.known, count, outbox.len(), name, kind, location);
+    if number != 0 {
+        return refused(head, numbers, number);
+    }
+    let up = of_up_links(head, links);
+    let from = up.addresses;
+    let k = send::send_alive(outbox, from, up.count, kind, name, location);
+    let dropped = dropped_at(numbers, spot);
+    let n = enter(head, numbers, texts, spot, name, kind, location);
+    set_count(head, NAME_COUNT, n);
+    accepted(head, numbers, k, dropping(dropped))
+}
+
+// The byebyes of a name, by where it stands.
+fn byebye_if(
+    outbox: &mut [u8],
+    head: &[u64],
+    links: &[u64],
+    numbers: &[u64],
+    texts: &[u8],
+    spot: Spot,
+) -> usize
+    requires { ⌜ LinkArrays (now head) (now links) × NameArrays (now numbers) (now texts) × (spot .known ≡ true → spot .at < advertisementsMax) × (outboxSize ≤ length (now outbox)) ⌝ }
+    ensures { λ r. ⌜ Sent (cond (spot .known) (byebyeOn (upAddresses (linksIn (now (head .entry)) (now (links .entry)))) (entryAt (spot .at) (now (numbers .entry)) (now (texts .entry)))) []) (now (outbox .entry)) (now (outbox .exit)) r ⌝ }
+{
+    let at = spot.at;
+    if spot.known {
+        let up = of_up_links(head, links);
+        let from = up.addresses;
+        return sends::send_byebye(outbox, from, up.count, numbers, texts, at);
+    }
+    0
+}
+
+// The names without the one that stands here. Answers how many are held then.
+fn leave(head: &[u64], numbers: &mut [u64], texts: &mut [u8], spot: Spot) -> usize
+    requires { ⌜ (length (now head) ≡ headPlaces) × NameArrays (now numbers) (now texts) × (spot .known ≡ true → spot .at < nameCount (now head)) ⌝ }
+    ensures { λ r. ⌜ ((name : Text) → Spotted advertised name (namesIn (now (head .entry)) (now (numbers .entry)) (now (texts .entry))) spot → NamesAfter r (now (numbers .exit)) (now (texts .exit)) (leave advertised name (namesIn (now (head .entry)) (now (numbers .entry)) (now (texts .entry))))) ⌝ }
+{
+    let n = names::count_of(head);
+    let at = spot.at;
+    if spot.known {
+        names::taken_out(numbers, texts, n, at);
+        return n - 1;
+    }
+    n
+}
+
+// Says that a service has gone. An unknown name does nothing.
+pub fn deadvertise(
+    head: &mut Head,
+    links: &Links,
+    numbers: &mut Numbers,
+    texts: &mut Texts,
+    name: &[u8],
+    outbox: &mut [u8],
+) -> Answer
+    ensures { λ r. ⌜ ((searches : List ℕ) → Answering (tables (now (head .entry)) (now (links .entry)) searches (now (numbers .entry)) (now (texts .entry))) (Deadvertise (now (name .entry)) (length (now (outbox .entry)))) (now (outbox .entry)) (now (outbox .exit)) (tables (now (head .exit)) (now (links .entry)) searches (now (numbers .exit)) (now (texts .exit))) r) ⌝ }
+{
+    let number = refusals::of_room(outbox.len());
+    if number != 0 {
+        return refused(head, numbers, number);
+    }
+    let spot = names::spot_of(head, numbers, texts, name);
+    let k = byebye_if(outbox, head, links, numbers, texts, spot);
+    let dropped = dropped_at(numbers, spot);
+    let n = leave(head, numbers, texts, spot);
+    set_count(head, NAME_COUNT, n);
+    accepted(head, numbers, k, dropping(dropped))
+}
+
+// Sends the refresh records, if the salvo is due, and the replies that are due.
+pub fn handle_timeout(
+    head: &mut Head,
+    links: &Links,
+    searches: &Searches,
+    numbers: &mut Numbers,
+    texts: &Texts,
+    time: u64,
+    outbox: &mut [u8],
+) -> Answer
+    ensures { λ r. ⌜ Answering (tables (now (head .entry)) (now (links .entry)) (now (searches .entry)) (now (numbers .entry)) (now (texts .entry))) (Timeout time (length (now (outbox .entry)))) (now (outbox .entry)) (now (outbox .exit)) (tables (now (head .exit)) (now (links .entry)) (now (searches .entry)) (now (numbers .exit)) (now (texts .entry))) r ⌝ }
+{
+    let number = refusals::of_timeout(time, outbox.len());
+    if number != 0 {
+        return refused(head, numbers, number);
+    }
+    let up = of_up_links(head, links);
+    let from = up.addresses;
+    let timer = timer_in(head);
+    let due = timer.next_salvo <= time;
+    let k = sends::send_timeout(
+        outbox,
+        from,
+        up.count,
+        due,
+        time,
+        head,
+        searches,
+        numbers,
+        texts,
+    );
+    let served = serve_all(head, numbers, time);
+    set_timer(head, rolled(timer, time));
+    accepted(head, numbers, k, sending(served.alone, served.group))
+}
+
+// A search: it opens, joins or shares the waiting replies of the names that it matches.
+fn on_search(
+    head: &[u64],
+    numbers: &mut [u64],
+    texts: &mut [u8],
+    time: u64,
+    sender: Endpoint,
+    receiver: u32,
+    datagram: &[u8],
+    place: Place,
+    mx: u8,
+) -> Answer
+    requires { ⌜ (length (now head) ≡ headPlaces) × NameArrays (now numbers) (now texts) × (time ≤ timeMax) × (parsed (now datagram) ≡ Search place mx) ⌝ }
+    ensures { λ r. ⌜ ((links searches : List ℕ) → Answering (tables (now (head .entry)) links searches (now (numbers .entry)) (now (texts .entry))) (Datagram time sender receiver (now (datagram .entry))) [] [] (tables (now (head .entry)) links searches (now (numbers .exit)) (now (texts .exit))) r) ⌝ }
+{
+    let target = message::field(datagram, place);
+    let number = refusals::of_search(time, mx, target.len());
+    if number != 0 {
+        return refused(head, numbers, number);
+    }
+    let asked = searched(
+        head,
+        numbers,
+        texts,
+        seed_in(head),
+        time,
+        target,
+        mx,
+        sender,
+        receiver,
+    );
+    accepted(head, numbers, 0, asking(asked.matched, asked.joined))
+}
+
+// Notice of a type: the subscriptions that match it are told.
+fn on_notice(
+    head: &[u64],
+    searches: &[u8],
+    numbers: &[u64],
+    time: u64,
+    sender: Endpoint,
+    receiver: u32,
+    datagram: &[u8],
+    kind: Place,
+) -> Answer
+    requires { ⌜ SearchArrays (now head) (now searches) × (length (now numbers) ≡ numbersSize) × (time ≤ timeMax) × (readingOf (parsed (now datagram)) ≡ Of (Notice kind)) ⌝ }
+    ensures { λ r. ⌜ ((links texts : List ℕ) → Answering (tables (now (head .entry)) links (now (searches .entry)) (now (numbers .entry)) texts) (Datagram time sender receiver (now (datagram .entry))) [] [] (tables (now (head .entry)) links (now (searches .entry)) (now (numbers .entry)) texts) r) ⌝ }
+{
+    let told = searches::told_of(head, searches, message::field(datagram, kind));
+    accepted(head, numbers, 0, telling(told))
+}
+
+// A datagram has come from `sender`, at the address `receiver`.
+pub fn on_data(
+    head: &Head,
+    searches: &Searches,
+    numbers: &mut Numbers,
+    texts: &mut Texts,
+    time: u64,
+    sender: Endpoint,
+    receiver: u32,
+    datagram: &[u8],
+) -> Answer
+    ensures { λ r. ⌜ ((links : List ℕ) → Answering (tables (now (head .entry)) links (now (searches .entry)) (now (numbers .entry)) (now (texts .entry))) (Datagram time sender receiver (now (datagram .entry))) [] [] (tables (now (head .entry)) links (now (searches .entry)) (now (numbers .exit)) (now (texts .exit))) r) ⌝ }
+{
+    if refusals::TIME_MAX < time {
+        return refused(head, numbers, refusals::TIME_LATE);
+    }
+    let said = message::parse(datagram);
+    let read = reading_of(said);
+    let Reading::Of(subject) = read else {
+        return refused(head, numbers, number_of(said));
+    };
+    match subject {
+        Subject::Search(place, mx) => on_search(
+            head,
+            numbers,
+            texts,
+            time,
+            sender,
+            receiver,
+            datagram,
+            place,
+            mx,
+        ),
+        Subject::Notice(kind) => on_notice(
+            head,
+            searches,
+            numbers,
+            time,
+            sender,
+            receiver,
+            datagram,
+            kind,
+        ),
+    }
+}

@@ -1,0 +1,274 @@
+// The waiting replies of the names in their lent arrays: how many wait and until when, and what a search and a handle_timeout make of them (document 01, 'Engine and ledger').
+use crate::advertisement::Endpoint;
+use crate::advertisement::ResponseNeeded;
+use crate::delay::delay_of;
+use crate::field::text80;
+use crate::names::ActiveAdvertisement;
+use crate::names::active_at;
+use crate::names::count_of;
+use crate::names::kind_at;
+use crate::names::reply_at;
+use crate::names::store_active;
+use crate::names::store_reply;
+use crate::replies::alone_of;
+use crate::replies::asked_reply;
+use crate::replies::group_of;
+use crate::replies::is_due;
+use crate::replies::opens;
+use crate::replies::sooner_of;
+use crate::replies::wait_of;
+use crate::subscription::is_all;
+use crate::wanted::Wanted;
+use crate::wanted::wanted_of;
+use crate::wanted::wants;
+ghost use mathlib.Core.Path.{_≡_};
+ghost use mathlib.Core.Bool.{true};
+ghost use mathlib.Core.List.{List};
+ghost use Prim.Native.Nat.{ℕ, _<_, _≤_};
+ghost use lib.ListN.{length, take};
+ghost use Rattle.message.specs.Build.{typeMax};
+ghost use Rattle.engine.specs.Sizes.{advertisementsMax, timeMax};
+ghost use Rattle.engine.specs.Delay.{delay};
+ghost use Rattle.engine.specs.Target.{targetMatch};
+ghost use Rattle.engine.specs.Wanted.{wantedOf};
+ghost use Rattle.engine.specs.Replies.{answerType, hits, askedNeed, askedAnswer, asked, matchedBy, joinedBy, served, aloneAt, groupAt, waiting, soonest};
+ghost use Rattle.engine.specs.Passes.{askedBy};
+ghost use Rattle.engine.specs.Arrays.{headPlaces, numbersSize, entryAt, replyAt, entries, namesIn, NameArrays};
+ghost use Rattle.engine.specs.Changes.{blank, withActive, PassOne, PassAll, AskedBy};
+
+// How many replies wait, and the earliest of an instant and theirs.
+pub struct Waits {
+    pub waiting: usize,
+    pub poll: u64,
+}
+
+pub(crate) fn waits_in(head: &[u64], numbers: &[u64], time: u64) -> Waits
+    requires { ⌜ (length (now head) ≡ headPlaces) × (length (now numbers) ≡ numbersSize) ⌝ }
+    ensures { λ r. ⌜ ((texts : List ℕ) → (r .waiting ≡ waiting (namesIn (now (head .entry)) (now (numbers .entry)) texts)) × (r .poll ≡ soonest time (namesIn (now (head .entry)) (now (numbers .entry)) texts))) ⌝ }
+{
+    let n = count_of(head);
+    let mut waiting = 0;
+    let mut poll = time;
+    let mut i = 0;
+    while i < n {
+        let needed = reply_at(numbers, i);
+        waiting += wait_of(needed);
+        poll = sooner_of(poll, needed);
+        i += 1;
+    }
+    Waits {
+        waiting: waiting,
+        poll: poll,
+    }
+}
+
+// ---- a search
+
+// The type that an opened reply answers in: the target, or the name's own type for `ssdp:all`.
+fn answer_to(a: ActiveAdvertisement, target: &[u8], kind: &[u8]) -> ActiveAdvertisement
+    requires { ⌜ (length (now target) ≤ typeMax) × (length (now kind) ≤ typeMax) ⌝ }
+    ensures { λ r. ⌜ (r .«response_needed» ≡ a .«response_needed») × (take (r .«answer_len») (r .answer) ≡ answerType (now (target .entry)) (now (kind .entry))) ⌝ }
+{
+    let needed = a.response_needed;
+    if is_all(target) {
+        let own = text80(kind);
+        return ActiveAdvertisement {
+            response_needed: needed,
+            answer: own,
+            answer_len: kind.len(),
+        };
+    }
+    let asked = text80(target);
+    ActiveAdvertisement {
+        response_needed: needed,
+        answer: asked,
+        answer_len: target.len(),
+    }
+}
+
+// An advertisement of a type, after a search that asks for it.
+fn answering(
+    a: ActiveAdvertisement,
+    kind: &[u8],
+    due: u64,
+    target: &[u8],
+    sender: Endpoint,
+    receiver: u32,
+) -> ActiveAdvertisement
+    requires { ⌜ (length (now target) ≤ typeMax) × (length (now kind) ≤ typeMax) ⌝ }
+    ensures { λ r. ⌜ (r .«response_needed» ≡ askedNeed true due (askedBy (now (target .entry)) sender receiver) (a .«response_needed»)) × (take (r .«answer_len») (r .answer) ≡ askedAnswer true (askedBy (now (target .entry)) sender receiver) (now (kind .entry)) (a .«response_needed») (take (a .«answer_len») (a .answer))) ⌝ }
+{
+    let needed = a.response_needed;
+    let reply = asked_reply(needed, due, sender, receiver);
+    if opens(needed) {
+        let typed = answer_to(a, target, kind);
+        let opened = typed.answer;
+        return ActiveAdvertisement {
+            response_needed: reply,
+            answer: opened,
+            answer_len: typed.answer_len,
+        };
+    }
+    let kept = a.answer;
+    ActiveAdvertisement {
+        response_needed: reply,
+        answer: kept,
+        answer_len: a.answer_len,
+    }
+}
+
+// Whether a search asks for name i.
+fn is_asked(numbers: &[u64], texts: &[u8], i: usize, target: &[u8], wanted: Wanted) -> bool
+    requires { ⌜ (i < advertisementsMax) × NameArrays (now numbers) (now texts) × (wanted ≡ wantedOf (now target)) ⌝ }
+    ensures { λ r. ⌜ r ≡ targetMatch (now (target .entry)) (entryAt i (now (numbers .entry)) (now (texts .entry)) .kind) ⌝ }
+{
+    wants(target, wanted, kind_at(numbers, texts, i))
+}
+
+// Name i after a search that asks for it, taken out.
+fn asked_at(
+    numbers: &[u64],
+    texts: &[u8],
+    i: usize,
+    due: u64,
+    target: &[u8],
+    sender: Endpoint,
+    receiver: u32,
+) -> ActiveAdvertisement
+    requires { ⌜ (i < advertisementsMax) × NameArrays (now numbers) (now texts) × (length (now target) ≤ typeMax) ⌝ }
+    ensures { λ r. ⌜ (hits (askedBy (now (target .entry)) sender receiver) (entryAt i (now (numbers .entry)) (now (texts .entry))) ≡ true → withActive (r .«response_needed») (take (r .«answer_len») (r .answer)) (entryAt i (now (numbers .entry)) (now (texts .entry))) ≡ asked due (askedBy (now (target .entry)) sender receiver) (entryAt i (now (numbers .entry)) (now (texts .entry)))) ⌝ }
+{
+    let a = active_at(numbers, texts, i);
+    answering(a, kind_at(numbers, texts, i), due, target, sender, receiver)
+}
+
+// How many names a search matched, and how many waiting replies it joined.
+pub struct Asked {
+    pub matched: usize,
+    pub joined: usize,
+}
+
+// A search at name i.
+fn ask_one(
+    numbers: &mut [u64],
+    texts: &mut [u8],
+    i: usize,
+    due: u64,
+    target: &[u8],
+    wanted: Wanted,
+    sender: Endpoint,
+    receiver: u32,
+) -> Asked
+    requires { ⌜ (i < advertisementsMax) × NameArrays (now numbers) (now texts) × (length (now target) ≤ typeMax) × (wanted ≡ wantedOf (now target)) ⌝ }
+    ensures { λ r. ⌜ ((n : ℕ) → i < n → n ≤ advertisementsMax → PassOne (asked due (askedBy (now (target .entry)) sender receiver)) (matchedBy (askedBy (now (target .entry)) sender receiver)) (joinedBy (askedBy (now (target .entry)) sender receiver)) blank i (entries n (now (numbers .entry)) (now (texts .entry))) (entries n (now (numbers .exit)) (now (texts .exit))) (r .matched) (r .joined)) ⌝ }
+{
+    if is_asked(numbers, texts, i, target, wanted) {
+        let joined = wait_of(reply_at(numbers, i));
+        let after = asked_at(numbers, texts, i, due, target, sender, receiver);
+        store_active(numbers, texts, i, after);
+        return Asked {
+            matched: 1,
+            joined: joined,
+        };
+    }
+    Asked {
+        matched: 0,
+        joined: 0,
+    }
+}
+
+// A search at every name.
+fn ask_all(
+    head: &[u64],
+    numbers: &mut [u64],
+    texts: &mut [u8],
+    due: u64,
+    target: &[u8],
+    sender: Endpoint,
+    receiver: u32,
+) -> Asked
+    requires { ⌜ (length (now head) ≡ headPlaces) × NameArrays (now numbers) (now texts) × (length (now target) ≤ typeMax) ⌝ }
+    ensures { λ r. ⌜ PassAll (asked due (askedBy (now (target .entry)) sender receiver)) (matchedBy (askedBy (now (target .entry)) sender receiver)) (joinedBy (askedBy (now (target .entry)) sender receiver)) (namesIn (now (head .entry)) (now (numbers .entry)) (now (texts .entry))) (namesIn (now (head .entry)) (now (numbers .exit)) (now (texts .exit))) (r .matched) (r .joined) ⌝ }
+{
+    let n = count_of(head);
+    let wanted = wanted_of(target);
+    let mut matched = 0;
+    let mut joined = 0;
+    let mut i = 0;
+    while i < n {
+        let step = ask_one(numbers, texts, i, due, target, wanted, sender, receiver);
+        matched += step.matched;
+        joined += step.joined;
+        i += 1;
+    }
+    Asked {
+        matched: matched,
+        joined: joined,
+    }
+}
+
+// A search that came at a time, with the delay of its replies.
+pub(crate) fn searched(
+    head: &[u64],
+    numbers: &mut [u64],
+    texts: &mut [u8],
+    seed: u32,
+    time: u64,
+    target: &[u8],
+    mx: u8,
+    sender: Endpoint,
+    receiver: u32,
+) -> Asked
+    requires { ⌜ (length (now head) ≡ headPlaces) × NameArrays (now numbers) (now texts) × (length (now target) ≤ typeMax) × (time ≤ timeMax) ⌝ }
+    ensures { λ r. ⌜ AskedBy seed (record { target = now (target .entry); mx = mx; sender = sender; receiver = receiver; time = time }) (namesIn (now (head .entry)) (now (numbers .entry)) (now (texts .entry))) (namesIn (now (head .entry)) (now (numbers .exit)) (now (texts .exit))) (r .matched) (r .joined) ⌝ }
+{
+    let due = time + delay_of(seed, mx);
+    ask_all(head, numbers, texts, due, target, sender, receiver)
+}
+
+// ---- a handle_timeout
+
+// How many replies went to lone searchers, and how many to the group.
+pub struct Served {
+    pub alone: usize,
+    pub group: usize,
+}
+
+// A handle_timeout at name i.
+fn serve_one(numbers: &mut [u64], i: usize, time: u64) -> Served
+    requires { ⌜ (i < advertisementsMax) × (length (now numbers) ≡ numbersSize) ⌝ }
+    ensures { λ r. ⌜ ((n : ℕ) (texts : List ℕ) → i < n → n ≤ advertisementsMax → PassOne (served time) (aloneAt time) (groupAt time) blank i (entries n (now (numbers .entry)) texts) (entries n (now (numbers .exit)) texts) (r .alone) (r .group)) ⌝ }
+{
+    let needed = reply_at(numbers, i);
+    if is_due(needed, time) {
+        store_reply(numbers, i, ResponseNeeded::None);
+        let alone = alone_of(needed);
+        let group = group_of(needed);
+        return Served {
+            alone: alone,
+            group: group,
+        };
+    }
+    Served { alone: 0, group: 0 }
+}
+
+// A handle_timeout at every name.
+pub(crate) fn serve_all(head: &[u64], numbers: &mut [u64], time: u64) -> Served
+    requires { ⌜ (length (now head) ≡ headPlaces) × (length (now numbers) ≡ numbersSize) ⌝ }
+    ensures { λ r. ⌜ ((texts : List ℕ) → PassAll (served time) (aloneAt time) (groupAt time) (namesIn (now (head .entry)) (now (numbers .entry)) texts) (namesIn (now (head .entry)) (now (numbers .exit)) texts) (r .alone) (r .group)) ⌝ }
+{
+    let n = count_of(head);
+    let mut alone = 0;
+    let mut group = 0;
+    let mut i = 0;
+    while i < n {
+        let step = serve_one(numbers, i, time);
+        alone += step.alone;
+        group += step.group;
+        i += 1;
+    }
+    Served {
+        alone: alone,
+        group: group,
+    }
+}

@@ -1,11 +1,11 @@
--- No call sends more than 120 records (document 01, 'Outbox'), whatever it is, on tables that are within their sizes:
--- a salvo of 8 names and 4 searches on 6 addresses, and 8 replies to the group on as many.
+-- No call sends more than `recordsMax` records (document 01, 'Outbox'), whatever it is, on tables that are within their sizes:
+-- a salvo of all names and searches on all addresses, and a reply to the group for every name on as many.
 use mathlib.Core.Bool.{Bool, true, false, cond, _&&_}
 use mathlib.Core.List.{List, [], _∷_, map}
 use Prim.Native.Nat.{ℕ, _*_, _≤_}
 use native.Mathlib.Omega.{arith}
 use lib.ListN.{length, length-append, length-map}
-use Rattle.engine.specs.Sizes.{advertisementsMax, subscriptionsMax, linksMax, addressesMax, recordsMax, recordSize, outboxSize}
+use Rattle.engine.specs.Sizes.{advertisementsMax, subscriptionsMax, linksMax, addressesMax, sourcesMax, recordsMax, recordSize, outboxSize}
 use Rattle.engine.specs.Table.{entryOf}
 use Rattle.engine.specs.Held.{Text, Link, Context, Advertisement, advertised, byIndex}
 use Rattle.engine.specs.Calls.{Call, NewLink, DeletedLink, NewAddress, DeletedAddress, Subscribe, Advertise, Deadvertise, Refresh, Datagram, Timeout, ResetTimer}
@@ -23,11 +23,11 @@ pub record Few (x : Context) (as′ : List Advertisement) : Type 0 where
   pub addresses : Each (λ l. length (l .addresses) ≤ addressesMax) (x .links)
 
 -- ---- addresses
-pub up-few : (ls : List Link) → Each (λ l. length (l .addresses) ≤ addressesMax) ls → length (upAddresses ls) ≤ 2 * length ls
+pub up-few : (ls : List Link) → Each (λ l. length (l .addresses) ≤ addressesMax) ls → length (upAddresses ls) ≤ addressesMax * length ls
 unfolding upAddresses
 up-few [] h = omega arith
 up-few (l ∷ ls) (both p h) =
-    omega (arith, length-append (cond (l .up) (l .addresses) []) (upAddresses ls), cond-most (l .up) (l .addresses) 2 p, up-few ls h)
+    omega (arith, length-append (cond (l .up) (l .addresses) []) (upAddresses ls), cond-most (l .up) (l .addresses) addressesMax p, up-few ls h)
 
 -- those of one link
 pub at-few : (index : ℕ) (ls : List Link) → Each (λ l. length (l .addresses) ≤ addressesMax) ls → length (addressesOf (linkAt index ls)) ≤ addressesMax
@@ -35,7 +35,7 @@ unfolding entryOf addressesOf
 at-few index [] h = omega arith
 at-few index (l ∷ ls) (both p h) = go (byIndex .below (l .index) index) (byIndex .same (l .index) index) (at-few index ls h)
   where
-    go : (b c : Bool) → length (addressesOf (linkAt index ls)) ≤ 2 → length (addressesOf (cond b (linkAt index ls) (cond c (l ∷ []) []))) ≤ 2
+    go : (b c : Bool) → length (addressesOf (linkAt index ls)) ≤ addressesMax → length (addressesOf (cond b (linkAt index ls) (cond c (l ∷ []) []))) ≤ addressesMax
     go true c k = k
     go false true k = omega (arith, length-append (l .addresses) [])
     go false false k = omega arith
@@ -56,11 +56,11 @@ module _ (x : Context) (as′ : List Advertisement) (few : Few x as′) where
   abbrev up : List ℕ
   up = upAddresses (x .links)
 
-  up-six : length up ≤ 6
-  up-six = omega (arith, up-few (x .links) (few .addresses), few .links)
+  up-most : length up ≤ sourcesMax
+  up-most = omega (arith, up-few (x .links) (few .addresses), few .links)
 
-  on-six : (f : ℕ → Record) → length (map f up) ≤ 6
-  on-six f = omega (arith, length-map up f, up-six)
+  on-most : (f : ℕ → Record) → length (map f up) ≤ sourcesMax
+  on-most f = omega (arith, length-map up f, up-most)
 
   pub records-bound : (c : Call) → length (records x as′ c) ≤ recordsMax
   unfolding records refreshRecords addressRecords
@@ -73,13 +73,13 @@ module _ (x : Context) (as′ : List Advertisement) (few : Few x as′) where
       let most = all-most (x .subscriptions) as′ (few .subscriptions) (few .names) (addressOf address) in
       cond-most (stores index address (x .links) && anyUp (linkAt index (x .links))) (allFrom (x .subscriptions) as′ (addressOf address)) recordsMax (omega arith)
   records-bound (DeletedAddress index address) = omega arith
-  records-bound (Subscribe kind room) = omega (arith, on-six (λ source. SearchFrom source kind))
-  records-bound (Advertise name kind location room) = omega (arith, on-six (λ source. NotifyFrom source kind name location))
+  records-bound (Subscribe kind room) = omega (arith, on-most (λ source. SearchFrom source kind))
+  records-bound (Advertise name kind location room) = omega (arith, on-most (λ source. NotifyFrom source kind name location))
   records-bound (Deadvertise name room) =
-      omega (arith, flat-most (byebyeOn up) 6 (λ a. on-six _) (entryOf advertised name as′), entry-few name as′)
-  records-bound (Refresh room) = omega (arith, refresh-most (x .subscriptions) as′ (few .subscriptions) (few .names) up up-six)
+      omega (arith, flat-most (byebyeOn up) sourcesMax (λ a. on-most _) (entryOf advertised name as′), entry-few name as′)
+  records-bound (Refresh room) = omega (arith, refresh-most (x .subscriptions) as′ (few .subscriptions) (few .names) up up-most)
   records-bound (Datagram now sender receiver s) = omega arith
-  records-bound (Timeout now room) = timeout-most (x .subscriptions) as′ (few .subscriptions) (few .names) up up-six (salvoDue x now) now
+  records-bound (Timeout now room) = timeout-most (x .subscriptions) as′ (few .subscriptions) (few .names) up up-most (salvoDue x now) now
   records-bound (ResetTimer now) = omega arith
 
   -- so they fit in the outbox that a host lends

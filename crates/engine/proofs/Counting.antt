@@ -7,7 +7,7 @@ use native.Mathlib.Omega.{arith}
 use native.Mathlib.Nat.{mul-le-mul, le-trans}
 use lib.ListN.{length, take, length-append, length-map, length-take}
 use Rattle.text.specs.Bytes.{equal}
-use Rattle.engine.specs.Sizes.{recordsMax, advertisementsMax, subscriptionsMax, linksMax, addressesMax}
+use Rattle.engine.specs.Sizes.{recordsMax, advertisementsMax, subscriptionsMax, addressesMax, sourcesMax}
 use Rattle.engine.specs.Target.{ssdpAll}
 use Rattle.engine.specs.Held.{Text, Advertisement, advertisementOf, advertisementsOf, kindOf, subscriptionsOf}
 use Rattle.engine.specs.Records.{SearchFrom, flat, anyAll, searchesOf, notify, notifyOn, searchOn, refreshOn, allFrom, isDue, replyRecords, dueRecords, timeoutOn}
@@ -76,14 +76,14 @@ due-most m time up a one h = cond-most (isDue time (a .needed)) (replyRecords up
 
 -- ---- the runs over tables of document 01's sizes
 module _ (ts : List Text) (as′ : List Advertisement) (few : length ts ≤ subscriptionsMax) (some : length as′ ≤ advertisementsMax) where
-  pub all-most : (source : ℕ) → length (allFrom ts as′ source) ≤ 12
+  pub all-most : (source : ℕ) → length (allFrom ts as′ source) ≤ subscriptionsMax + advertisementsMax
   all-most source = omega (arith, all-count ts as′ source, searches-most ts)
 
-  pub turn-most : (addresses : List ℕ) → length addresses ≤ addressesMax → length (flat (allFrom ts as′) addresses) ≤ 24
-  turn-most addresses h = omega (arith, flat-most (allFrom ts as′) 12 all-most addresses)
+  pub turn-most : (addresses : List ℕ) → length addresses ≤ addressesMax → length (flat (allFrom ts as′) addresses) ≤ (subscriptionsMax + advertisementsMax) * addressesMax
+  turn-most addresses h = omega (arith, flat-most (allFrom ts as′) (subscriptionsMax + advertisementsMax) all-most addresses)
 
-  module _ (up : List ℕ) (addresses : length up ≤ linksMax * addressesMax) where
-    pub refresh-most : length (refreshOn up ts as′) ≤ 72
+  module _ (up : List ℕ) (addresses : length up ≤ sourcesMax) where
+    pub refresh-most : length (refreshOn up ts as′) ≤ sourcesMax * (advertisementsMax + subscriptionsMax)
     refresh-most = omega (arith, refresh-count up ts as′, mul-le-mul addresses some, mul-le-mul addresses (le-trans (searches-most ts) few))
 
     pub timeout-most : (due : Bool) (time : ℕ) → length (timeoutOn up due time ts as′) ≤ recordsMax
@@ -91,6 +91,6 @@ module _ (ts : List Text) (as′ : List Advertisement) (few : length ts ≤ subs
         omega (
           arith,
           length-append (cond due (refreshOn up ts as′) []) (flat (dueRecords time up) as′),
-          cond-most due (refreshOn up ts as′) 72 refresh-most,
-          flat-most (dueRecords time up) 6 (λ a. due-most 6 time up a (omega arith) addresses) as′,
+          cond-most due (refreshOn up ts as′) (sourcesMax * (advertisementsMax + subscriptionsMax)) refresh-most,
+          flat-most (dueRecords time up) sourcesMax (λ a. due-most sourcesMax time up a (omega arith) addresses) as′,
         )

@@ -44,19 +44,19 @@ pub record TextsFit (a : Advertisement) : Type 0 where
   pub location : Fits locationMax (a .location)
   pub answer : AnswerFits (a .needed) (a .answer)
 
--- the advertisements: in byte order of name, at most 8, all texts fit
+-- the advertisements: in byte order of name, at most as many as the table has rows, all texts fit
 pub record Listed (as′ : List Advertisement) : Type 0 where
   pub order : Ascending advertised as′
   pub few : length as′ ≤ advertisementsMax
   pub fit : Each TextsFit as′
 
--- links by index, at most 3, each of at most 2 addresses
+-- links by index, no more than the table has rows, nor addresses than a row has places
 pub record Linked (ls : List Link) : Type 0 where
   pub order : Ascending byIndex ls
   pub few : length ls ≤ linksMax
   pub addresses : Each (λ l. length (l .addresses) ≤ addressesMax) ls
 
--- at most 4 subscriptions, all types fit
+-- subscriptions, no more than the table has rows, all types fit
 pub record Subscribed (ts : List Text) : Type 0 where
   pub few : length ts ≤ subscriptionsMax
   pub fit : Each (Fits typeMax) ts
@@ -84,7 +84,7 @@ and-false false b p e = absurd (true≢false (sym p))
 entered-few : (a : Advertisement) (l : List Advertisement) (b : Bool) → known advertised (a .name) l ≡ b →
     (not b && leb advertisementsMax (length l)) ≡ false → length l ≤ advertisementsMax → length (enter advertised a l) ≤ advertisementsMax
 entered-few a l true e f h = omega (arith, length-enter-known advertised a l e)
-entered-few a l false e f h = omega (arith, leb-false 8 (length l) f, length-enter advertised a l)
+entered-few a l false e f h = omega (arith, leb-false advertisementsMax (length l) f, length-enter advertised a l)
 
 -- the answer type of a search that opens a wait
 module _ (laws : Laws) where
@@ -179,7 +179,7 @@ linked-cond false ls ms h k = k
 news-few : (b : Link) (ls : List Link) (k m : Bool) → known byIndex (b .index) ls ≡ k → m ≡ true → (m && not k && leb linksMax (length ls)) ≡ false →
     length ls ≤ linksMax → length (enter byIndex b ls) ≤ linksMax
 news-few b ls true m e t f h = omega (arith, length-enter-known byIndex b ls e)
-news-few b ls false m e t f h = omega (arith, leb-false 3 (length ls) (and-false (m && true) _ (ap (λ (x : Bool). x && true) t) f), length-enter byIndex b ls)
+news-few b ls false m e t f h = omega (arith, leb-false linksMax (length ls) (and-false (m && true) _ (ap (λ (x : Bool). x && true) t) f), length-enter byIndex b ls)
 
 known-few : (b : Link) (ls : List Link) → known byIndex (b .index) ls ≡ true → length ls ≤ linksMax → length (enter byIndex b ls) ≤ linksMax
 known-few b ls e h = omega (arith, length-enter-known byIndex b ls e)
@@ -208,7 +208,7 @@ linked-after x n (NewAddress index address room) p h =
     (λ t.
     let s = and-true (isV4 address && known byIndex index ls) (not (contains (addressOf address) held)) t in
     let k = and-true (isV4 address) (known byIndex index ls) (s .0) in
-    let free = leb-false 2 (length held) (and-false (stores index address ls) (leb addressesMax (length held)) t (p .1 .1 .1 .0)) in
+    let free = leb-false addressesMax (length held) (and-false (stores index address ls) (leb addressesMax (length held)) t (p .1 .1 .1 .0)) in
     linked-enter b ls (omega (arith, length-append held (addressOf address ∷ []), free)) (known-few b ls (k .1) (h .few)) h) h
 linked-after x n (DeletedAddress index address) p h =
     let ls = x .links in
@@ -233,7 +233,7 @@ subscribed-after x n (DeletedLink index outcome) p h = h
 subscribed-after x n (NewAddress index address room) p h = h
 subscribed-after x n (DeletedAddress index address) p h = h
 subscribed-after x n (Subscribe kind room) p h = record {
-  few = omega (arith, length-append (x .subscriptions) (kind ∷ []), leb-false 4 (length (x .subscriptions)) (p .1 .1 .1 .0));
+  few = omega (arith, length-append (x .subscriptions) (kind ∷ []), leb-false subscriptionsMax (length (x .subscriptions)) (p .1 .1 .1 .0));
   fit = each-append (h .fit) (both (fits-passed typeMax kind (p .1 .0) (p .1 .1 .0)) nobody);
 }
 subscribed-after x n (Advertise name kind location room) p h = h

@@ -7,11 +7,11 @@ use native.Mathlib.Nat.{mul-le-mul, le-trans}
 use native.Mathlib.Omega.{arith}
 use lib.ListN.{length, take, getD, length-append}
 use lib.Seq.{take-all}
-use Rattle.engine.specs.Sizes.{advertisementsMax, subscriptionsMax, addressesMax, outboxSize}
+use Rattle.engine.specs.Sizes.{advertisementsMax, subscriptionsMax, addressesMax, outboxSize, sourcesMax}
 use Rattle.engine.specs.Held.{Text, Advertisement}
 use Rattle.engine.specs.Records.{Record, SearchFrom, flat, searchOn, notify, notifyOn, refreshOn, allFrom, isDue, replyRecords, dueRecords, timeoutOn}
 use Rattle.engine.specs.Layout.{Room, Sends}
-use Rattle.engine.specs.Arrays.{sourcesMax, searchWidth, searchIn, searchAt, searchCount, searchesIn, namesIn}
+use Rattle.engine.specs.Arrays.{searchWidth, searchIn, searchAt, searchCount, searchesIn, namesIn}
 use Rattle.engine.specs.declared.advertisement.ResponseNeeded.{ResponseNeeded}
 use Rattle.engine.proofs.Flat.{flat-most, flat-one}
 use Rattle.engine.proofs.Sending as sending

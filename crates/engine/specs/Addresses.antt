@@ -5,6 +5,7 @@ use mathlib.Core.Bool.{cond}
 use mathlib.Core.List.{List, [], _∷_}
 use lib.Dec.{eqb}
 use lib.ListN.{take}
+use Rattle.engine.specs.Sizes.{sourcesMax}
 use Rattle.engine.specs.declared.source.Sources.{Sources}
 
 -- the place of the first x, or the list's length
@@ -15,4 +16,4 @@ placeOf x (a ∷ l) = cond (eqb a x) 0 (suc (placeOf x l))
 -- the addresses that messages go out from: no more than the array holds
 pub record SourcesOf (l : List ℕ) (s : Sources) : Type 0 where
   pub held : take (s .count) (s .addresses) ≡ l
-  pub few : s .count ≤ 6
+  pub few : s .count ≤ sourcesMax

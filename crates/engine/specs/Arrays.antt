@@ -86,10 +86,6 @@ linkCount head = min (getD head linksPlace 0) linksMax
 unfoldable pub linksIn : List ℕ → List ℕ → List Link
 linksIn head links = linkRows (linkCount head) links
 
--- the addresses that messages go out from
-abbrev pub sourcesMax : ℕ
-sourcesMax = linksMax * addressesMax
-
 -- ---- subscriptions
 abbrev pub searchWidth : ℕ
 searchWidth = 1 + typeMax

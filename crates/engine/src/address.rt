@@ -1,6 +1,7 @@
 // The addresses of a link: document 01, 'Links and addresses'.
 use crate::clamp::least;
 use crate::interface::Interface;
+use crate::sizes::ADDRESSES;
 ghost use mathlib.Core.Path.{_≡_};
 ghost use mathlib.Core.Bool.{false};
 ghost use mathlib.Core.List.{[], _∷_, _++_};
@@ -34,14 +35,14 @@ pub(crate) fn number_of(bytes: &[u8]) -> u32
 pub(crate) fn count_of(link: Interface) -> usize
     ensures { λ r. ⌜ r ≡ length (take (link .count) (link .addresses)) ⌝ }
 {
-    least(link.count, 2)
+    least(link.count, ADDRESSES)
 }
 
 // Where an address stands among those of a link, or their number where it is none of them.
 fn place_of(link: Interface, address: u32) -> usize
     ensures { λ r. ⌜ r ≡ placeOf address (take (link .count) (link .addresses)) ⌝ }
 {
-    let n = least(link.count, 2);
+    let n = least(link.count, ADDRESSES);
     let mut i = 0;
     while i < n {
         let own = link.addresses[i];
@@ -57,16 +58,16 @@ fn place_of(link: Interface, address: u32) -> usize
 pub(crate) fn has_address(link: Interface, address: u32) -> bool
     ensures { λ r. ⌜ r ≡ contains address (take (link .count) (link .addresses)) ⌝ }
 {
-    place_of(link, address) < least(link.count, 2)
+    place_of(link, address) < least(link.count, ADDRESSES)
 }
 
 // A link with an address behind its others, if there is room.
 pub(crate) fn with_address(link: Interface, address: u32) -> Interface
     ensures { λ r. ⌜ (leb addressesMax (length (take (link .count) (link .addresses))) ≡ false → linkOf r ≡ linkWith (link .index) (link .up) (take (link .count) (link .addresses) ++ (address ∷ []))) ⌝ }
 {
-    let n = least(link.count, 2);
+    let n = least(link.count, ADDRESSES);
     let mut out = link;
-    if n < 2 {
+    if n < ADDRESSES {
         out.addresses[n] = address;
         out.count = n + 1;
     }
@@ -77,7 +78,7 @@ pub(crate) fn with_address(link: Interface, address: u32) -> Interface
 pub(crate) fn without_address(link: Interface, address: u32) -> Interface
     ensures { λ r. ⌜ linkOf r ≡ linkWith (link .index) (link .up) (lastInto address (take (link .count) (link .addresses))) ⌝ }
 {
-    let n = least(link.count, 2);
+    let n = least(link.count, ADDRESSES);
     let at = place_of(link, address);
     let mut out = link;
     if at < n {

@@ -8,6 +8,7 @@ use crate::field::front128;
 use crate::outbox::byebye_on;
 use crate::outbox::notify_on;
 use crate::outbox::search_on;
+use crate::sizes::SOURCES;
 use crate::subscription::ActiveSearch;
 ghost use mathlib.Core.List.{[], _∷_};
 ghost use Prim.Native.Nat.{_+_, _*_, _≤_};
@@ -49,7 +50,7 @@ fn announce(
 pub(crate) fn announce_on_all(
     outbox: &mut [u8],
     k: usize,
-    up: [u32; 6],
+    up: [u32; SOURCES],
     n: usize,
     what: Announcement,
     kind: &[u8],
@@ -59,7 +60,7 @@ pub(crate) fn announce_on_all(
     requires { ⌜ Room (now outbox) k (announcedOn (take n up) what (now kind) (now name) (now location)) × (length (now location) ≤ locationMax) ⌝ }
     ensures { λ r. ⌜ Sends (now (outbox .entry)) k (announcedOn (take n up) what (now (kind .entry)) (now (name .entry)) (now (location .entry))) (now (outbox .exit)) r ⌝ }
 {
-    let m = least(n, 6);
+    let m = least(n, SOURCES);
     let mut at = k;
     let mut i = 0;
     while i < m {
@@ -73,7 +74,7 @@ pub(crate) fn announce_on_all(
 pub(crate) fn announce_entry(
     outbox: &mut [u8],
     k: usize,
-    up: [u32; 6],
+    up: [u32; SOURCES],
     n: usize,
     what: Announcement,
     a: ActiveAdvertisement,
@@ -100,7 +101,7 @@ pub(crate) fn announce_entry(
 pub(crate) fn search_entry(
     outbox: &mut [u8],
     k: usize,
-    up: [u32; 6],
+    up: [u32; SOURCES],
     n: usize,
     s: ActiveSearch,
 ) -> usize

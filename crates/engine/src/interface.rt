@@ -1,5 +1,6 @@
 // Links (network interfaces) by index: document 01, 'Links and addresses'.
 use crate::clamp::least;
+use crate::sizes::ADDRESSES;
 use crate::table::Spot;
 ghost use mathlib.Core.Path.{_≡_};
 ghost use mathlib.Core.Bool.{false, not, _&&_};
@@ -19,7 +20,7 @@ pub struct Interface {
     pub index: u32,
     pub up: bool,
     pub count: usize,
-    pub addresses: [u32; 2],
+    pub addresses: [u32; ADDRESSES],
 }
 
 // The first `count` links, by index.
@@ -42,7 +43,7 @@ pub fn none() -> Interfaces
         index: 0,
         up: false,
         count: 0,
-        addresses: [0; 2],
+        addresses: [0; ADDRESSES],
     };
     Interfaces {
         count: 0,
@@ -98,7 +99,7 @@ pub fn held_at(t: Interfaces, index: u32) -> HeldLink
             index: index,
             up: false,
             count: 0,
-            addresses: [0; 2],
+            addresses: [0; ADDRESSES],
         },
     }
 }

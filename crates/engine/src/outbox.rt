@@ -3,6 +3,9 @@
 use crate::advertisement::Endpoint;
 use crate::buffer::put;
 use crate::location::rewrite_host;
+use crate::sizes::RECORD_HEAD;
+use crate::sizes::RECORD_SIZE;
+use crate::sizes::REWRITTEN_SIZE;
 ghost use mathlib.Core.Path.{_≡_};
 ghost use mathlib.Core.List.{[], _∷_};
 ghost use Prim.Native.Nat.{_+_, _-_, _*_, _≤_};
@@ -11,11 +14,6 @@ ghost use Rattle.text.specs.Put.{Put};
 ghost use Rattle.engine.specs.Sizes.{recordSize, headSize, locationMax};
 ghost use Rattle.engine.specs.Records.{SearchFrom, NotifyFrom, ByeByeFrom, ResponseFrom};
 ghost use Rattle.engine.specs.Layout.{headOf, framed, Sends};
-
-// The bytes of a record, and of its head.
-const RECORD_SIZE: usize = 524;
-
-const HEAD_SIZE: usize = 12;
 
 // Writes `n` zeros into `buf` from `at` on and answers the place behind them.
 fn clear(buf: &mut [u8], at: usize, n: usize) -> usize
@@ -33,7 +31,7 @@ fn clear(buf: &mut [u8], at: usize, n: usize) -> usize
 }
 
 // The head of a record whose message has `len` bytes.
-fn head(to: Endpoint, source: u32, len: usize) -> [u8; 12]
+fn head(to: Endpoint, source: u32, len: usize) -> [u8; RECORD_HEAD]
     ensures { λ r. ⌜ r ≡ headOf to source len ⌝ }
 {
     [
@@ -60,7 +58,7 @@ fn frame(outbox: &mut [u8], k: usize, to: Endpoint, source: u32, len: usize)
     let start = RECORD_SIZE * k;
     let h = head(to, source, len);
     let at = put(outbox, start, &h);
-    clear(outbox, at + len, RECORD_SIZE - HEAD_SIZE - len);
+    clear(outbox, at + len, RECORD_SIZE - RECORD_HEAD - len);
 }
 
 // The group that all but responses go to.
@@ -74,7 +72,7 @@ pub(crate) fn search_on(outbox: &mut [u8], k: usize, source: u32, kind: &[u8]) -
     requires { ⌜ recordSize * (k + 1) ≤ length (now outbox) ⌝ }
     ensures { λ r. ⌜ Sends (now (outbox .entry)) k (SearchFrom source (now (kind .entry)) ∷ []) (now (outbox .exit)) r ⌝ }
 {
-    let at = RECORD_SIZE * k + HEAD_SIZE;
+    let at = RECORD_SIZE * k + RECORD_HEAD;
     let built = message::build_search(&mut outbox[at..], kind);
     frame(outbox, k, GROUP, source, built.len);
     k + 1
@@ -92,9 +90,9 @@ pub(crate) fn notify_on(
     requires { ⌜ (recordSize * (k + 1) ≤ length (now outbox)) × (length (now location) ≤ locationMax) ⌝ }
     ensures { λ r. ⌜ Sends (now (outbox .entry)) k (NotifyFrom source (now (kind .entry)) (now (name .entry)) (now (location .entry)) ∷ []) (now (outbox .exit)) r ⌝ }
 {
-    let mut url = [0u8; 135];
+    let mut url = [0u8; REWRITTEN_SIZE];
     let len = rewrite_host(&mut url, location, source);
-    let at = RECORD_SIZE * k + HEAD_SIZE;
+    let at = RECORD_SIZE * k + RECORD_HEAD;
     let built = message::build_notify(&mut outbox[at..], kind, name, &url[..len]);
     frame(outbox, k, GROUP, source, built.len);
     k + 1
@@ -105,7 +103,7 @@ pub(crate) fn byebye_on(outbox: &mut [u8], k: usize, source: u32, kind: &[u8], n
     requires { ⌜ recordSize * (k + 1) ≤ length (now outbox) ⌝ }
     ensures { λ r. ⌜ Sends (now (outbox .entry)) k (ByeByeFrom source (now (kind .entry)) (now (name .entry)) ∷ []) (now (outbox .exit)) r ⌝ }
 {
-    let at = RECORD_SIZE * k + HEAD_SIZE;
+    let at = RECORD_SIZE * k + RECORD_HEAD;
     let built = message::build_byebye(&mut outbox[at..], kind, name);
     frame(outbox, k, GROUP, source, built.len);
     k + 1
@@ -124,9 +122,9 @@ pub(crate) fn send_response(
     requires { ⌜ (recordSize * (k + 1) ≤ length (now outbox)) × (length (now location) ≤ locationMax) ⌝ }
     ensures { λ r. ⌜ Sends (now (outbox .entry)) k (ResponseFrom source to (now (kind .entry)) (now (name .entry)) (now (location .entry)) ∷ []) (now (outbox .exit)) r ⌝ }
 {
-    let mut url = [0u8; 135];
+    let mut url = [0u8; REWRITTEN_SIZE];
     let len = rewrite_host(&mut url, location, source);
-    let at = RECORD_SIZE * k + HEAD_SIZE;
+    let at = RECORD_SIZE * k + RECORD_HEAD;
     let built = message::build_response(&mut outbox[at..], kind, name, &url[..len]);
     frame(outbox, k, to, source, built.len);
     k + 1

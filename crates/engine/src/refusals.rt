@@ -1,5 +1,13 @@
 // Who can be turned away (document 01): the refusal number of a call from its arguments and from what it looks at of the engine, 0 for an accepted one.
 // The order is that of specs/Refusals.antt.
+use crate::sizes::ADDRESSES;
+use crate::sizes::LINKS;
+use crate::sizes::LOCATION_SIZE;
+use crate::sizes::NAME_SIZE;
+use crate::sizes::NAMES;
+use crate::sizes::OUTBOX_SIZE;
+use crate::sizes::SUBSCRIPTIONS;
+use crate::sizes::TYPE_SIZE;
 use text::good;
 ghost use mathlib.Core.Path.{_≡_};
 ghost use Prim.Native.Nat.{ℕ};
@@ -43,8 +51,6 @@ pub const JOIN_FAILED: u32 = 14;
 
 pub const TIME_MAX: u64 = 9223372036854775807;
 
-pub const OUTBOX_SIZE: usize = 62880;
-
 // The number, if the test fails; else the rest's.
 fn first(fails: bool, number: u32, rest: u32) -> u32
     ensures { λ r. ⌜ r ≡ cond fails number rest ⌝ }
@@ -63,10 +69,12 @@ pub fn of_advertise(
 ) -> u32
     ensures { λ r. ⌜ ((x : Context) (n : Names) → n .holds (now (name .entry)) ≡ held → n .count ≡ count → n .need ≡ outboxSize → r ≡ refusal x n (Advertise (now (name .entry)) (now (kind .entry)) (now (location .entry)) room)) ⌝ }
 {
-    let full = first((!held) & (8 <= count), TABLE_FULL, 0);
+    let full = first((!held) & (NAMES <= count), TABLE_FULL, 0);
     let bad = (!good::is_good(name)) | (!good::is_good(kind)) | (!good::is_good(location));
     let formed = first(bad, TEXT_NOT_GOOD, full);
-    let over = (128 < name.len()) | (80 < kind.len()) | (120 < location.len());
+    let over = (NAME_SIZE < name.len())
+        | (TYPE_SIZE < kind.len())
+        | (LOCATION_SIZE < location.len());
     let sized = first(over, TEXT_OVER_SIZE, formed);
     first(room < OUTBOX_SIZE, OUTBOX_SHORT, sized)
 }
@@ -75,9 +83,9 @@ pub fn of_advertise(
 pub fn of_subscribe(count: usize, room: usize, kind: &[u8]) -> u32
     ensures { λ r. ⌜ ((x : Context) (n : Names) → length (x .subscriptions) ≡ count → n .need ≡ outboxSize → r ≡ refusal x n (Subscribe (now (kind .entry)) room)) ⌝ }
 {
-    let full = first(4 <= count, TABLE_FULL, 0);
+    let full = first(SUBSCRIPTIONS <= count, TABLE_FULL, 0);
     let formed = first(!good::is_good(kind), TEXT_NOT_GOOD, full);
-    let sized = first(80 < kind.len(), TEXT_OVER_SIZE, formed);
+    let sized = first(TYPE_SIZE < kind.len(), TEXT_OVER_SIZE, formed);
     first(room < OUTBOX_SIZE, OUTBOX_SHORT, sized)
 }
 
@@ -119,7 +127,7 @@ pub fn of_new_link(
 {
     let fresh = multicast & (!held);
     let joined = first(fresh & (outcome != 0), JOIN_FAILED, 0);
-    let full = first(fresh & (3 <= count), LINKS_FULL, joined);
+    let full = first(fresh & (LINKS <= count), LINKS_FULL, joined);
     first(
         room < OUTBOX_SIZE,
         OUTBOX_SHORT,
@@ -138,7 +146,7 @@ pub fn of_deleted_link(index: u32) -> u32
 pub fn of_new_address(storing: bool, count: usize, index: u32, address: &[u8], room: usize) -> u32
     ensures { λ r. ⌜ ((x : Context) (n : Names) → stores index (now (address .entry)) (x .links) ≡ storing → length (addressesOf (linkAt index (x .links))) ≡ count → n .need ≡ outboxSize → r ≡ refusal x n (NewAddress index (now (address .entry)) room)) ⌝ }
 {
-    let full = first(storing & (2 <= count), LINKS_FULL, 0);
+    let full = first(storing & (ADDRESSES <= count), LINKS_FULL, 0);
     let formed = first(
         !((address.len() == 4) | (address.len() == 16)),
         ADDRESS_LENGTH,
@@ -167,6 +175,6 @@ pub fn of_deleted_address(index: u32, address: &[u8]) -> u32
 pub fn of_search(time: u64, mx: u8, target: usize) -> u32
     ensures { λ r. ⌜ ((x : Context) (n : Names) (sender : Endpoint) (receiver : ℕ) (s : List ℕ) (st : Place) → parsed s ≡ Search st mx → length (fieldAt s st) ≡ target → r ≡ refusal x n (Datagram time sender receiver s)) ⌝ }
 {
-    let long = first(80 < target, TARGET_OVER_SIZE, 0);
+    let long = first(TYPE_SIZE < target, TARGET_OVER_SIZE, 0);
     first(TIME_MAX < time, TIME_LATE, first(mx == 0, WAIT_ZERO, long))
 }

@@ -9,6 +9,8 @@ use crate::due::replies_due;
 use crate::salvo::refresh_on_all;
 use crate::salvo::send_all;
 use crate::salvo::send_all_in_turn;
+use crate::sizes::ADDRESSES;
+use crate::sizes::SOURCES;
 use crate::subscription::ActiveSearches;
 ghost use mathlib.Core.List.{[], map};
 ghost use mathlib.Core.Bool.{cond};
@@ -20,7 +22,7 @@ ghost use Rattle.engine.specs.Records.{NotifyFrom, flat, searchOn, byeby
 ghost use Rattle.engine.specs.Layout.{Room, Sends, Sent};
 
 // `subscribe`: a search from each of the first `n` addresses.
-pub(crate) fn send_search(outbox: &mut [u8], up: [u32; 6], n: usize, kind: &[u8]) -> usize
+pub(crate) fn send_search(outbox: &mut [u8], up: [u32; SOURCES], n: usize, kind: &[u8]) -> usize
     requires { ⌜ outboxSize ≤ length (now outbox) ⌝ }
     ensures { λ r. ⌜ Sent (searchOn (take n up) (now (kind .entry))) (now (outbox .entry)) (now (outbox .exit)) r ⌝ }
 {
@@ -30,7 +32,7 @@ pub(crate) fn send_search(outbox: &mut [u8], up: [u32; 6], n: usize, kind: &[u8]
 // `advertise`: that a service is there, from each of the first `n` addresses.
 pub(crate) fn send_alive(
     outbox: &mut [u8],
-    up: [u32; 6],
+    up: [u32; SOURCES],
     n: usize,
     kind: &[u8],
     name: &[u8],
@@ -45,7 +47,7 @@ pub(crate) fn send_alive(
 // `deadvertise` of a known name: that its service goes, from each of the first `n` addresses.
 pub(crate) fn send_byebye(
     outbox: &mut [u8],
-    up: [u32; 6],
+    up: [u32; SOURCES],
     n: usize,
     a: ActiveAdvertisement,
 ) -> usize
@@ -58,7 +60,7 @@ pub(crate) fn send_byebye(
 // `refresh`.
 pub(crate) fn send_refresh(
     outbox: &mut [u8],
-    up: [u32; 6],
+    up: [u32; SOURCES],
     n: usize,
     searches: ActiveSearches,
     t: Advertisements,
@@ -85,7 +87,7 @@ pub(crate) fn send_to_address(
 // A link that turns up, with the first `n` of its addresses.
 pub(crate) fn send_to_link(
     outbox: &mut [u8],
-    addresses: [u32; 2],
+    addresses: [u32; ADDRESSES],
     n: usize,
     searches: ActiveSearches,
     t: Advertisements,
@@ -99,7 +101,7 @@ pub(crate) fn send_to_link(
 // The refresh records of a timeout, if the salvo is due. Answers the next record's number.
 fn salvo_if_due(
     outbox: &mut [u8],
-    up: [u32; 6],
+    up: [u32; SOURCES],
     n: usize,
     due: bool,
     searches: ActiveSearches,
@@ -117,7 +119,7 @@ fn salvo_if_due(
 // `handle_timeout`: the refresh records, if the salvo is due, then the replies that are due by now.
 pub(crate) fn send_timeout(
     outbox: &mut [u8],
-    up: [u32; 6],
+    up: [u32; SOURCES],
     n: usize,
     due: bool,
     time: u64,

@@ -19,6 +19,19 @@ pub const TYPE_SIZE: usize = 80;
 
 pub const LOCATION_SIZE: usize = 120;
 
+// What is sent: the bytes of a record and of its head, the most records that a call writes, the outbox that has room for them, and the longest location that names an address.
+pub const RECORD_SIZE: usize = 524;
+
+pub const RECORD_HEAD: usize = 12;
+
+pub const RECORDS: usize = (NAMES + SUBSCRIPTIONS + NAMES) * SOURCES;
+
+pub const OUTBOX_SIZE: usize = RECORD_SIZE * RECORDS;
+
+pub const ADDRESS_TEXT_SIZE: usize = 15;
+
+pub const REWRITTEN_SIZE: usize = LOCATION_SIZE + ADDRESS_TEXT_SIZE;
+
 // The head: the timer, and how many of each are held.
 pub const SEED: usize = 0;
 

@@ -2,6 +2,7 @@
 use crate::clamp::least;
 use crate::interface::Interface;
 use crate::interface::Interfaces;
+use crate::sizes::SOURCES;
 ghost use mathlib.Core.Path.{_≡_};
 ghost use mathlib.Core.Bool.{cond};
 ghost use mathlib.Core.List.{[], _∷_, _++_};
@@ -14,7 +15,7 @@ ghost use Rattle.engine.specs.Addresses.{SourcesOf};
 // The first `count` addresses: three links have two each at most.
 pub struct Sources {
     pub count: usize,
-    pub addresses: [u32; 6],
+    pub addresses: [u32; SOURCES],
 }
 
 // The addresses with one more behind them.
@@ -62,7 +63,7 @@ fn none() -> Sources
 {
     Sources {
         count: 0,
-        addresses: [0; 6],
+        addresses: [0; SOURCES],
     }
 }
 

@@ -11,10 +11,10 @@ ghost use mathlib.Core.Bool.{cond};
 ghost use mathlib.Core.List.{[], _∷_, _++_};
 ghost use Prim.Native.Nat.{_+_, _≤_, _<_};
 ghost use lib.ListN.{take};
-ghost use Rattle.engine.specs.Sizes.{addressesMax};
+ghost use Rattle.engine.specs.Sizes.{addressesMax, sourcesMax};
 ghost use Rattle.engine.specs.Links.{upAddresses};
 ghost use Rattle.engine.specs.Addresses.{SourcesOf};
-ghost use Rattle.engine.specs.Arrays.{sourcesMax, linksIn, LinkArrays};
+ghost use Rattle.engine.specs.Arrays.{linksIn, LinkArrays};
 
 // The addresses with one more behind them.
 fn pushed(s: Sources, address: u32) -> Sources

@@ -2,15 +2,16 @@
 use mathlib.Core.Path.{_≡_, refl, sym, _∙_, ap}
 use mathlib.Core.Bool.{Bool, true, false, _&&_, and-assoc, and-true, and-false, and-eq-true-iff, false≢true}
 use mathlib.Core.List.{List, [], _∷_}
-use Prim.Native.Nat.{ℕ, suc, _+_, _-_, _≤_, _<_}
+use Prim.Native.Nat.{ℕ, zero, suc, _+_, _-_, _≤_, _<_}
 use native.Mathlib.Omega.{arith}
 use native.Mathlib.Numerals.{add-one}
 use borrow.Author.Tests.{eqb-true, le-leb, lt-leb, eq-eqb, ne-eqb, lt-ltb, le-ltb}
 use lib.Dec.{eqb, ltb}
-use lib.ListN.{length, drop, getD, drop-of-length-le}
-use lib.Seq.{drop-cons}
+use lib.ListN.{length, take, drop, getD, drop-of-length-le, length-drop}
+use lib.Seq.{drop-cons, drop-drop, getD-drop, take-all}
 use Rattle.text.specs.Bytes.{agree, upper, equal, order, startsWith}
 use Rattle.text.specs.declared.bytes.Ordering.the-variants.{Less, Equal, Greater}
+use Rattle.text.proofs.Every.{between}
 
 -- ASCII capitals
 pub upper-below : (a : ℕ) → a < 97 → upper a ≡ a
@@ -54,6 +55,51 @@ agree-lengths f [] (b ∷ t) h = refl
 agree-lengths f (a ∷ s) [] h = refl
 agree-lengths f (a ∷ s) (b ∷ t) h = ap (_&&_ (eqb (f a) b)) (agree-lengths f s t (λ e. h (ap suc e))) ∙ and-false (eqb (f a) b)
 
+-- texts agree as their first k bytes do and what follows these
+agree-split : (f : ℕ → ℕ) (s t : List ℕ) (k : ℕ) → agree f s t ≡ (agree f (take k s) (take k t) && agree f (drop k s) (drop k t))
+unfolding agree
+agree-split f s t zero = refl
+agree-split f [] [] (suc k) = refl
+agree-split f [] (b ∷ t) (suc k) = refl
+agree-split f (a ∷ s) [] (suc k) = refl
+agree-split f (a ∷ s) (b ∷ t) (suc k) =
+    ap (_&&_ (eqb (f a) b)) (agree-split f s t k) ∙ sym (and-assoc (eqb (f a) b) (agree f (take k s) (take k t)) (agree f (drop k s) (drop k t)))
+
+-- one byte more of two texts
+agree-more : (f : ℕ → ℕ) (s t : List ℕ) (k : ℕ) → k < length s → k < length t → (agree f (take k s) (take k t) && eqb (f (getD s k 0)) (getD t k 0)) ≡ agree f (take (suc k) s) (take (suc k) t)
+unfolding agree
+agree-more f [] t k h g = absurd (omega arith)
+agree-more f (a ∷ s) [] k h g = absurd (omega arith)
+agree-more f (a ∷ s) (b ∷ t) zero h g = sym (and-true (eqb (f a) b))
+agree-more f (a ∷ s) (b ∷ t) (suc k) h g =
+    and-assoc (eqb (f a) b) (agree f (take k s) (take k t)) (eqb (f (getD s k 0)) (getD t k 0)) ∙ ap (_&&_ (eqb (f a) b)) (agree-more f s t k (omega arith) (omega arith))
+
+-- blocks of k bytes
+module _ (f : ℕ → ℕ) (s t : List ℕ) where
+  -- a turn of a loop over the bytes of the block from `at` on
+  pub agree-byte : (at i : ℕ) → at + i < length s → at + i < length t
+      → (agree f (take i (drop at s)) (take i (drop at t)) && eqb (f (getD s (at + i) 0)) (getD t (at + i) 0)) ≡ agree f (take (i + 1) (drop at s)) (take (i + 1) (drop at t))
+  agree-byte at i h g =
+      rw (add-one, ← getD-drop at s i 0, ← getD-drop at t i 0)
+      (agree-more f (drop at s) (drop at t) i (omega (arith, length-drop at s)) (omega (arith, length-drop at t)))
+
+  agree-from : (i k : ℕ) → agree f (drop i s) (drop i t) ≡ (agree f (take k (drop i s)) (take k (drop i t)) && agree f (drop (i + k) s) (drop (i + k) t))
+  agree-from i k = rw (← drop-drop k i s, ← drop-drop k i t) (agree-split f (drop i s) (drop i t) k)
+
+  pub agree-passes : (i k : ℕ) → agree f (take k (drop i s)) (take k (drop i t)) ≡ true → agree f s t ≡ agree f (drop i s) (drop i t) → agree f s t ≡ agree f (drop (i + k) s) (drop (i + k) t)
+  agree-passes i k e p = p ∙ agree-from i k ∙ ap (λ (b : Bool). b && agree f (drop (i + k) s) (drop (i + k) t)) e
+
+  pub agree-fails : (i k : ℕ) → agree f (take k (drop i s)) (take k (drop i t)) ≡ false → agree f s t ≡ agree f (drop i s) (drop i t) → agree f s t ≡ false
+  agree-fails i k e p = p ∙ agree-from i k ∙ ap (λ (b : Bool). b && agree f (drop (i + k) s) (drop (i + k) t)) e
+
+  -- the last block, from a place j before i on
+  pub agree-last : (i j k : ℕ) → j ≤ i → length s ≤ j + k → length t ≤ j + k → agree f s t ≡ agree f (drop i s) (drop i t) → agree f (take k (drop j s)) (take k (drop j t)) ≡ agree f s t
+  agree-last i j k h u v p =
+      let n : j + (i - j) ≡ i = omega arith in
+      let q = agree-from j (i - j) ∙ ap (λ (m : ℕ). agree f (take (i - j) (drop j s)) (take (i - j) (drop j t)) && agree f (drop m s) (drop m t)) n in
+      rw (take-all k (drop j s) (omega (arith, length-drop j s)), take-all k (drop j t) (omega (arith, length-drop j t)))
+      (sym (between (agree f s t) (agree f (drop j s) (drop j t)) (agree f (drop i s) (drop i t)) (agree f (take j s) (take j t)) (agree f (take (i - j) (drop j s)) (take (i - j) (drop j t))) (agree-split f s t j) q p))
+
 -- texts that are equal are the same, and the other way round
 pub equal-is : (s t : List ℕ) → equal s t ≡ true → s ≡ t
 unfolding agree
@@ -96,6 +142,21 @@ module _ (s t : List ℕ) (i : ℕ) where
   pub order-end : length s ≤ i → length t ≤ i → order (drop i s) (drop i t) ≡ Equal
   unfolding order
   order-end h g = rw (drop-of-length-le s h, drop-of-length-le t g)
+
+-- a front that both have is passed as a whole
+order-front : (s t : List ℕ) (k : ℕ) → equal (take k s) (take k t) ≡ true → order s t ≡ order (drop k s) (drop k t)
+unfolding agree order
+order-front s t zero e = refl
+order-front [] [] (suc k) e = refl
+order-front [] (b ∷ t) (suc k) e = absurd (false≢true e)
+order-front (a ∷ s) [] (suc k) e = absurd (false≢true e)
+order-front (a ∷ s) (b ∷ t) (suc k) e =
+    let p = and-eq-true-iff (eqb a b) (equal (take k s) (take k t)) .0 e in
+    let q : a ≡ b = eqb-true a b (p .0) in
+    rw (le-ltb a b (omega arith), le-ltb b a (omega arith)) (order-front s t k (p .1))
+
+pub order-block : (s t : List ℕ) (i k : ℕ) → equal (take k (drop i s)) (take k (drop i t)) ≡ true → order s t ≡ order (drop i s) (drop i t) → order s t ≡ order (drop (i + k) s) (drop (i + k) t)
+order-block s t i k e p = rw (← drop-drop k i s, ← drop-drop k i t) (p ∙ order-front (drop i s) (drop i t) k e)
 
 pub order-refl : (s : List ℕ) → order s s ≡ Equal
 unfolding order

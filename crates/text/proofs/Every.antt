@@ -24,7 +24,8 @@ unfolding every
 every-append f [] t = refl
 every-append f (a ∷ s) t = ap (λ (x : Bool). f a && x) (every-append f s t) ∙ sym (and-assoc (f a) (every f s) (every f t))
 
-between : (a b c p q : Bool) → a ≡ (p && b) → b ≡ (q && c) → a ≡ c → a ≡ b
+-- a test that answers the same from the start on and from a later place on does so from each place between
+pub between : (a b c p q : Bool) → a ≡ (p && b) → b ≡ (q && c) → a ≡ c → a ≡ b
 between a b c true q e g h = e
 between a b c false true e g h = h ∙ sym g
 between a b c false false e g h = e ∙ sym g

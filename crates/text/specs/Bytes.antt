@@ -15,6 +15,10 @@ unfoldable pub bytes : String → List ℕ
 bytes []ˢ = []
 bytes (c ∷ˢ s) = code c ∷ bytes s
 
+-- bytes of a block, which are compared at once
+abbrev pub blockSize : ℕ
+blockSize = 16
+
 -- s is t once f is put on each byte of s
 unfoldable pub agree : (ℕ → ℕ) → List ℕ → List ℕ → Bool
 agree f [] [] = true

@@ -2,8 +2,11 @@
 // ('target_match' and 'rewrite_host'). A place that is not found is the text's length.
 ghost use mathlib.Core.Path.{_≡_};
 ghost use Prim.Native.Nat.{_+_, _≤_};
-ghost use lib.ListN.{length, drop};
-ghost use Rattle.text.specs.Bytes.{lacks, upper, equal, equalUpper, order, indexOf, lastIndexOf, startsWith, indexOfText};
+ghost use lib.ListN.{length, take, drop};
+ghost use Rattle.text.specs.Bytes.{blockSize, lacks, upper, equal, equalUpper, order, indexOf, lastIndexOf, startsWith, indexOfText};
+
+// Bytes that `equal` and `order` compare at once.
+const BLOCK: usize = 16;
 
 pub enum Ordering {
     Less,
@@ -24,14 +27,11 @@ pub fn upper_of(a: u8) -> u8
     a - 32
 }
 
-// Whether two texts are the same. The loop has no way out before the end, so that it runs over many
-// bytes at a time.
-pub fn equal(s: &[u8], t: &[u8]) -> bool
+// Whether two texts of one length are the same, byte by byte.
+fn same_short(s: &[u8], t: &[u8]) -> bool
+    requires { ⌜ length (now s) ≡ length (now t) ⌝ }
     ensures { λ r. ⌜ r ≡ equal (now (s .entry)) (now (t .entry)) ⌝ }
 {
-    if s.len() != t.len() {
-        return false;
-    }
     let mut same = true;
     let mut i = 0;
     while i < s.len() {
@@ -39,6 +39,42 @@ pub fn equal(s: &[u8], t: &[u8]) -> bool
         i += 1;
     }
     same
+}
+
+// Whether two texts have the same block from `at` on. The loop has no way out before the end, so that it is one comparison.
+fn same_from(s: &[u8], t: &[u8], at: usize) -> bool
+    requires { ⌜ (at + blockSize ≤ length (now s)) × (at + blockSize ≤ length (now t)) ⌝ }
+    ensures { λ r. ⌜ r ≡ equal (take blockSize (drop at (now (s .entry)))) (take blockSize (drop at (now (t .entry)))) ⌝ }
+{
+    let mut same = true;
+    let mut i = 0;
+    while i < BLOCK {
+        same = same & (s[at + i] == t[at + i]);
+        i += 1;
+    }
+    same
+}
+
+// Whether two texts are the same, by blocks. The last block ends where the texts do and compares some bytes of the one before again, so that
+// no byte is compared by itself.
+pub fn equal(s: &[u8], t: &[u8]) -> bool
+    ensures { λ r. ⌜ r ≡ equal (now (s .entry)) (now (t .entry)) ⌝ }
+{
+    if s.len() != t.len() {
+        return false;
+    }
+    if s.len() < BLOCK {
+        return same_short(s, t);
+    }
+    let last = s.len() - BLOCK;
+    let mut i = 0;
+    while i < last {
+        if !same_from(s, t, i) {
+            return false;
+        }
+        i += BLOCK;
+    }
+    same_from(s, t, last)
 }
 
 // Whether `s`, its ASCII letters in upper case, is `t`.
@@ -58,11 +94,28 @@ pub fn equal_upper(s: &[u8], t: &[u8]) -> bool
     true
 }
 
+// A place before which two texts are the same, found by whole blocks.
+fn common(s: &[u8], t: &[u8]) -> usize
+    ensures { λ r. ⌜ (r ≤ length (now (s .entry))) × (r ≤ length (now (t .entry))) × (order (now (s .entry)) (now (t .entry)) ≡ order (drop r (now (s .entry))) (drop r (now (t .entry)))) ⌝ }
+{
+    let mut i = 0;
+    while BLOCK <= s.len() - i {
+        if t.len() - i < BLOCK {
+            return i;
+        }
+        if !same_from(s, t, i) {
+            return i;
+        }
+        i += BLOCK;
+    }
+    i
+}
+
 // The byte order of two texts.
 pub fn order(s: &[u8], t: &[u8]) -> Ordering
     ensures { λ r. ⌜ r ≡ order (now (s .entry)) (now (t .entry)) ⌝ }
 {
-    let mut i = 0;
+    let mut i = common(s, t);
     while i < s.len() {
         if t.len() <= i {
             return Ordering::Greater;

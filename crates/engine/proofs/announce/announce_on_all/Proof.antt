@@ -5,6 +5,7 @@ use mathlib.Core.List.{[], _∷_}
 use Prim.Native.Nat.{_-_}
 use lib.ListN.{length}
 use native.Mathlib.Omega.{arith}
+use Rattle.engine.specs.Sizes.{sourcesMax}
 use borrow.Author.Needs.{needs}
 use Rattle.engine.specs.Announcements.{announced}
 use Rattle.engine.proofs.Sending.{size}
@@ -36,7 +37,7 @@ announce-requires : tie.Need-announce-requires Inv-loop μ-loop
 announce-requires c κs =
     let s = c .before .before .before .before .before .before .before .before in
     let a = s .args in
-    let size : length (a .t3) ≡ 6 = s .good .1 .1 .0 .1 .0 .1 in
+    let size : length (a .t3) ≡ sourcesMax = s .good .1 .1 .0 .1 .0 .1 in
     let all = runs.each (a .t3) (a .n) _ size (c .before .before .before .least .ensures) (announced (a .what) (a .kind .now) (a .name .now) (a .location .now)) in
     (runs.more 0 all (s .pre .0) (omega arith) (omega arith) (c .before .before .loop .inv), s .pre .1)
 
@@ -49,7 +50,7 @@ loop-less c = omega arith
 loop-again : tie.Need-loop-again Inv-loop μ-loop
 loop-again c =
     let s = c .before .before .before .before .before .before .before .before .before .before .before in
-    let size : length (s .args .t3) ≡ 6 = s .good .1 .1 .0 .1 .0 .1 in
+    let size : length (s .args .t3) ≡ sourcesMax = s .good .1 .1 .0 .1 .0 .1 in
     runs.turn 0 (omega arith) (omega arith) (c .before .before .before .before .before .loop .inv) (c .before .before .announce .ensures)
 
 same-length : tie.Need-same-length Inv-loop μ-loop
@@ -59,7 +60,7 @@ returns : tie.Need-returns Inv-loop μ-loop
 returns c =
     let s = c .before .before .before .before .before .before .before in
     let a = s .args in
-    let size : length (a .t3) ≡ 6 = s .good .1 .1 .0 .1 .0 .1 in
+    let size : length (a .t3) ≡ sourcesMax = s .good .1 .1 .0 .1 .0 .1 in
     let all = runs.each (a .t3) (a .n) _ size (c .before .before .least .ensures) (announced (a .what) (a .kind .now) (a .name .now) (a .location .now)) in
     runs.end all (omega arith) (c .before .loop .inv)
 

@@ -6,11 +6,12 @@ use Rattle.engine.specs.Announcements.{announced, announcedOn}
 use Rattle.engine.specs.declared.announce.Announcement.the-variants.{Alive}
 use Rattle.engine.proofs.Sending.{sent, room-all}
 use Rattle.engine.proofs.Counting.{mapped-most}
+use Rattle.engine.specs.Sizes.{sourcesMax}
 use borrow.Author.Needs.{needs}
 use Rattle.engine.proofs.send.send_alive.Statement.{statement}
 use Rattle.engine.proofs.send.send_alive.Tie as tie
 
-up-size : (s : tie.Start) → length (s .args .up) ≡ 6
+up-size : (s : tie.Start) → length (s .args .up) ≡ sourcesMax
 up-size s = s .good .1 .0 .1 .0 .1
 
 announce-on-all-requires : tie.Need-announce-on-all-requires

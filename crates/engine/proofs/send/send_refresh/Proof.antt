@@ -3,7 +3,7 @@ use mathlib.Core.Path.{_≡_, sym, _∙_}
 use Prim.Native.Nat.{_≤_}
 use native.Mathlib.Omega.{arith}
 use lib.ListN.{length, take, length-map}
-use Rattle.engine.specs.Sizes.{advertisementsMax, subscriptionsMax}
+use Rattle.engine.specs.Sizes.{advertisementsMax, subscriptionsMax, sourcesMax}
 use Rattle.engine.specs.Held.{advertisementsOf, subscriptionsOf}
 use Rattle.engine.specs.Records.{refreshOn}
 use Rattle.engine.proofs.Sending.{sent, room-all}
@@ -12,7 +12,7 @@ use borrow.Author.Needs.{needs}
 use Rattle.engine.proofs.send.send_refresh.Statement.{statement}
 use Rattle.engine.proofs.send.send_refresh.Tie as tie
 
-up-size : (s : tie.Start) → length (s .args .up) ≡ 6
+up-size : (s : tie.Start) → length (s .args .up) ≡ sourcesMax
 up-size s = s .good .1 .0 .1 .0 .1
 
 searches-most : (s : tie.Start) → length (subscriptionsOf (s .args .searches)) ≤ subscriptionsMax

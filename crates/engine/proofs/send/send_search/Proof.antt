@@ -5,6 +5,7 @@ use lib.ListN.{length, take}
 use Rattle.engine.specs.Records.{SearchFrom, searchOn}
 use Rattle.engine.proofs.Sending.{sent, room-all}
 use Rattle.engine.proofs.Counting.{mapped-most}
+use Rattle.engine.specs.Sizes.{sourcesMax}
 use borrow.Author.Needs.{needs}
 use Rattle.engine.proofs.send.send_search.Statement.{statement}
 use Rattle.engine.proofs.send.send_search.Tie as tie
@@ -15,7 +16,7 @@ slice-aggregate-announce-on-all c = search needs
 slice-aggregate-announce-on-all-2 : tie.Need-slice-aggregate-announce-on-all-2
 slice-aggregate-announce-on-all-2 c = search needs
 
-up-size : (s : tie.Start) → length (s .args .up) ≡ 6
+up-size : (s : tie.Start) → length (s .args .up) ≡ sourcesMax
 up-size s = s .good .1 .0 .1 .0 .1
 
 announce-on-all-requires : tie.Need-announce-on-all-requires

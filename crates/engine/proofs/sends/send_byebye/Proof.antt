@@ -1,8 +1,9 @@
 -- There is room for a record from each address.
 use mathlib.Core.Path.{_≡_}
 use lib.ListN.{length}
+use Rattle.engine.specs.Sizes.{sourcesMax}
 use Rattle.engine.specs.Records.{ByeByeFrom}
-use Rattle.engine.specs.Arrays.{sourcesMax, entryAt}
+use Rattle.engine.specs.Arrays.{entryAt}
 use Rattle.engine.proofs.Sending.{sent}
 use Rattle.engine.proofs.TableRuns.{announced-room}
 use borrow.Author.Needs.{needs}

@@ -1,9 +1,9 @@
 -- There is room for a refresh.
 use mathlib.Core.Path.{_≡_}
 use lib.ListN.{length}
-use Rattle.engine.specs.Arrays.{sourcesMax}
 use Rattle.engine.proofs.Sending.{sent}
 use Rattle.engine.proofs.TableRuns.{refresh-room}
+use Rattle.engine.specs.Sizes.{sourcesMax}
 use borrow.Author.Needs.{needs}
 use Rattle.engine.proofs.sends.send_refresh.Statement.{statement}
 use Rattle.engine.proofs.sends.send_refresh.Tie as tie

@@ -1,8 +1,9 @@
 -- The refresh records, and the replies behind them.
 use mathlib.Core.Path.{_≡_}
 use lib.ListN.{length, take}
+use Rattle.engine.specs.Sizes.{sourcesMax}
 use Rattle.engine.specs.Records.{flat, dueRecords}
-use Rattle.engine.specs.Arrays.{sourcesMax, namesIn}
+use Rattle.engine.specs.Arrays.{namesIn}
 use Rattle.engine.proofs.Sending.{sent, next, room-next}
 use Rattle.engine.proofs.TableRuns.{refresh-room, timeout-room}
 use borrow.Author.Needs.{needs}

@@ -1,9 +1,9 @@
 -- The new address is stored behind those held.
 use mathlib.Core.Path.{_≡_, refl, sym, _∙_}
 use lib.ListN.{length, length-map}
-use Rattle.engine.specs.Arrays.{sourcesMax}
 use Rattle.engine.proofs.Slots as slots
 use native.Mathlib.Omega.{arith}
+use Rattle.engine.specs.Sizes.{sourcesMax}
 use borrow.Author.Needs.{needs}
 use Rattle.engine.proofs.sources.pushed.Statement.{statement}
 use Rattle.engine.proofs.sources.pushed.Tie as tie

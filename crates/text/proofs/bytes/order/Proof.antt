@@ -1,7 +1,8 @@
 -- `bytes::order`: as long as the bytes before i are equal, the texts are in the order of what follows. The measure is what is left of the first text.
-use mathlib.Core.Path.{_≡_, refl, sym, _∙_}
+use mathlib.Core.Path.{_≡_, sym, _∙_}
 use lib.ListN.{length, drop}
 use Prim.Native.Nat.{_-_, _≤_}
+use borrow.Author.Needs.{needs}
 use native.Mathlib.Omega.{arith}
 use Rattle.text.specs.Bytes.{order}
 use Rattle.text.proofs.Comparing as laws
@@ -14,13 +15,16 @@ Inv-loop s t i₀ i = (i ≤ length s) × (i ≤ length t) × (order s t ≡ ord
 abbrev μ-loop : tie.MeasureT-loop
 μ-loop s t i₀ i = length s - i
 
+common-requires : tie.Need-common-requires Inv-loop μ-loop
+common-requires c κs = search needs
+
 loop-holds : tie.Need-loop-holds Inv-loop μ-loop
-loop-holds c = (omega arith, omega arith, refl)
+loop-holds c = c .common .ensures
 
 returns : tie.Need-returns Inv-loop μ-loop
 returns c =
     let l = c .before .before .loop in
-    let a = c .before .before .before .args in
+    let a = c .before .before .before .before .before .before .args in
     sym (l .inv .2 ∙ laws.order-longer (a .s .now) (a .t .now) (l .i) (omega arith) (omega arith))
 
 shared-slice-read-if2 : tie.Need-shared-slice-read-if2 Inv-loop μ-loop
@@ -32,7 +36,7 @@ shared-slice-read-if2-2 c = omega arith
 returns-2 : tie.Need-returns-2 Inv-loop μ-loop
 returns-2 c =
     let l = c .before .before .before .before .before .loop in
-    let a = c .before .before .before .before .before .before .args in
+    let a = c .before .before .before .before .before .before .before .before .before .args in
     sym (l .inv .2 ∙ laws.order-less (a .s .now) (a .t .now) (l .i) (omega arith) (omega arith) (omega arith))
 
 shared-slice-read-if3 : tie.Need-shared-slice-read-if3 Inv-loop μ-loop
@@ -44,7 +48,7 @@ shared-slice-read-if3-2 c = omega arith
 returns-3 : tie.Need-returns-3 Inv-loop μ-loop
 returns-3 c =
     let l = c .before .before .before .before .before .before .before .before .loop in
-    let a = c .before .before .before .before .before .before .before .before .before .args in
+    let a = c .before .before .before .before .before .before .before .before .before .before .before .before .args in
     sym (l .inv .2 ∙ laws.order-greater (a .s .now) (a .t .now) (l .i) (omega arith) (omega arith) (omega arith))
 
 add-i : tie.Need-add-i Inv-loop μ-loop
@@ -56,19 +60,19 @@ loop-less c = omega arith
 loop-again : tie.Need-loop-again Inv-loop μ-loop
 loop-again c =
     let l = c .before .before .before .before .before .before .before .before .loop in
-    let a = c .before .before .before .before .before .before .before .before .before .args in
+    let a = c .before .before .before .before .before .before .before .before .before .before .before .before .args in
     (omega arith, omega arith, l .inv .2 ∙ laws.order-next (a .s .now) (a .t .now) (l .i) (omega arith) (omega arith) (omega arith) (omega arith))
 
 returns-4 : tie.Need-returns-4 Inv-loop μ-loop
 returns-4 c =
     let l = c .before .before .loop in
-    let a = c .before .before .before .args in
+    let a = c .before .before .before .before .before .before .args in
     sym (l .inv .2 ∙ laws.order-shorter (a .s .now) (a .t .now) (l .i) (omega arith) (omega arith))
 
 returns-5 : tie.Need-returns-5 Inv-loop μ-loop
 returns-5 c =
     let l = c .before .before .loop in
-    let a = c .before .before .before .args in
+    let a = c .before .before .before .before .before .before .args in
     sym (l .inv .2 ∙ laws.order-end (a .s .now) (a .t .now) (l .i) (omega arith) (omega arith))
 
 pub order-spec : {M : Type 1} → statement M
@@ -77,6 +81,7 @@ order-spec =
     (tie.spec
     Inv-loop
     μ-loop
+    common-requires
     loop-holds
     returns
     shared-slice-read-if2

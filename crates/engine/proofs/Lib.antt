@@ -36,7 +36,6 @@ pub mod TablePasses
 pub mod TableRuns
 pub mod Heads
 pub mod Lending
-pub mod NothingDue
 pub mod Answering
 pub mod Hearing
 pub mod LeafLaws
@@ -53,5 +52,6 @@ pub mod Reachable
 pub mod Messages
 pub mod Demand3
 pub mod EveryList
+pub mod NothingDue
 pub mod Functions
 pub mod Certificate

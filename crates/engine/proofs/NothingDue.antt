@@ -4,11 +4,19 @@ use mathlib.Core.Bool.{Bool, false, cond}
 use mathlib.Core.List.{List, [], _∷_, _++_, map}
 use Prim.Native.Nat.{ℕ, min, _+_, _≤_, _<_}
 use native.Mathlib.Omega.{arith}
-use borrow.Author.Tests.{lt-leb}
+use borrow.Author.Tests.{lt-leb, lt-ltb}
 use lib.Dec.{leb}
-use Rattle.engine.specs.Held.{Advertisement}
-use Rattle.engine.specs.Records.{Record, flat, isDue, replyRecords, dueRecords}
-use Rattle.engine.specs.Replies.{sumOf, sooner, soonest, servedNeed, served, isAlone, isGroup, aloneAt, groupAt}
+use Rattle.engine.specs.RefreshTimer.{timerStep}
+use Rattle.engine.specs.Held.{Held, Advertisement}
+use Rattle.engine.specs.Calls.{Timeout, acts, zeros}
+use Rattle.engine.specs.Links.{upAddresses, contextAfter}
+use Rattle.engine.specs.Layout.{Sent}
+use Rattle.engine.specs.Tallies.{sends}
+use Rattle.engine.specs.Engine.{poll}
+use Rattle.engine.proofs.Answering.{plus-zeros, sent-as, sent-nothing, not-chosen}
+use Rattle.engine.proofs.Lending.{Done}
+use Rattle.engine.specs.Records.{flat, isDue, replyRecords, dueRecords, refreshRecords, records}
+use Rattle.engine.specs.Replies.{sumOf, sooner, soonest, servedNeed, served, isAlone, isGroup, aloneAt, groupAt, result, results}
 use Rattle.engine.specs.declared.advertisement.ResponseNeeded.{ResponseNeeded}
 use Rattle.engine.specs.declared.advertisement.ResponseNeeded.the-variants.{None, Multicast, Unicast}
 
@@ -59,3 +67,29 @@ module _ (time : ℕ) where
   none-group t [] h = refl
   none-group t (a ∷ l) h =
       ap₂ _+_ (ap (λ (b : Bool). cond b (isGroup (a .needed)) 0) (here t a l h)) (none-group (sooner t (a .needed)) l h)
+
+-- and a handle_timeout of the engine leaves what is held
+pub idle-done : (h : Held) (time room : ℕ) → time < poll h → h ≡ Done h (Timeout time room)
+unfolding poll contextAfter acts result results timerStep
+idle-done h time room e =
+    let later = soonest-most time (h .context .timer .«next_salvo») (h .advertisements) e in
+    let still : timerStep (h .context .timer) time ≡ h .context .timer = rw (lt-ltb time (h .context .timer .«next_salvo») later) in
+    λ j. record {
+      context = record { seed = h .context .seed; timer = sym still j; links = h .context .links; subscriptions = h .context .subscriptions };
+      advertisements = sym (none-served time (h .context .timer .«next_salvo») (h .advertisements) e) j;
+    }
+
+pub idle-counts : (h : Held) (time room : ℕ) → time < poll h → zeros ≡ results (h .context .seed) (h .advertisements) (acts (Timeout time room)) .counts
+unfolding poll acts result results
+idle-counts h time room e =
+    let salvo = h .context .timer .«next_salvo» in
+    (λ j. sends (sym (none-alone time salvo (h .advertisements) e) j) (sym (none-group time salvo (h .advertisements) e) j)) ∙ sym (plus-zeros _)
+
+pub idle-sent : (h : Held) (time room : ℕ) (outbox : List ℕ) → time < poll h → Sent (records (h .context) (h .advertisements) (Timeout time room)) outbox outbox 0
+unfolding poll records
+idle-sent h time room outbox e =
+    let salvo = h .context .timer .«next_salvo» in
+    let up = upAddresses (h .context .links) in
+    let rs = refreshRecords (h .context) (h .advertisements) in
+    sent-as (sent-nothing outbox)
+    (sym (ap₂ _++_ (not-chosen rs (lt-leb salvo time (soonest-most time salvo (h .advertisements) e))) (no-records time up salvo (h .advertisements) e)))

@@ -431,7 +431,7 @@ pub fn deadvertise(
     accepted(head, numbers, k, dropping(dropped))
 }
 
-// Sends the refresh records, if the salvo is due, and the replies that are due.
+// Sends the refresh records, if the salvo is due, and the replies that are due. Before the instant to be polled at nothing is due, and nothing is done.
 pub fn handle_timeout(
     head: &mut Head,
     links: &Links,
@@ -446,6 +446,10 @@ pub fn handle_timeout(
     let number = refusals::of_timeout(time, outbox.len());
     if number != 0 {
         return refused(head, numbers, number);
+    }
+    let idle = accepted(head, numbers, 0, nothing());
+    if time < idle.poll {
+        return idle;
     }
     let up = of_up_links(head, links);
     let from = up.addresses;

@@ -1,12 +1,13 @@
--- `calls::handle_timeout` meets its contract: refused, or with the refresh records and the due replies sent, the replies ended and the timer rolled.
+-- `calls::handle_timeout` meets its contract: refused, or idle before the instant to be polled at, or with the refresh records and the due replies sent, the replies ended and the timer rolled.
 use mathlib.Core.Path.{_∙_, _≡_, ap, refl, sym}
 use mathlib.Core.List.{List}
-use Prim.Native.Nat.{_≤_}
+use Prim.Native.Nat.{_≤_, _<_}
 use Rattle.engine.proofs.Accepted.{passed}
+use Rattle.engine.proofs.NothingDue.{idle-done, idle-counts, idle-sent}
 use Rattle.engine.proofs.Timer.{timer-accepted}
 use Rattle.engine.specs.Arrays.{headPlaces, heldIn, linksIn, namesIn, searchesIn, seedIn, tables, timerIn}
 use Rattle.engine.specs.Calls.{Timeout, acts}
-use Rattle.engine.specs.Engine.{namesOf, tells, turned}
+use Rattle.engine.specs.Engine.{namesOf, poll, tells, turned}
 use Rattle.engine.specs.Held.{Advertisement, holding}
 use Rattle.engine.specs.Links.{contextAfter}
 use Rattle.engine.specs.Records.{records, refreshRecords, timeoutOn}
@@ -15,6 +16,7 @@ use Rattle.engine.specs.Refusals.{checks}
 use Rattle.engine.specs.Replies.{aloneAt, groupAt, result, results, sumOf}
 use Rattle.engine.specs.Sizes.{outboxSize, timeMax}
 use Rattle.engine.specs.Tallies.{sends}
+use Rattle.engine.specs.declared.engine.Answer.{Answer}
 use Rattle.engine.specs.declared.refresh_timer.RefreshTimer.{RefreshTimer}
 use borrow.Author.Needs.{needs}
 use borrow.Author.Tests.{ltb-false}
@@ -40,6 +42,27 @@ returns c =
     let a = at-of-timeout .before .before .args in
     lending.refused-answers (tables (a .head .now) (a .links .now) (a .searches .now) (a .numbers .now) (a .texts .now)) (Timeout (a .time) (length (a .outbox .now))) _ _ (at-of-timeout .of-timeout .result) (sym (at-of-timeout .of-timeout .ensures _ _ refl)) (at-if1 .if1 .taken) (c .refused .ensures _ _ _)
 
+nothing-requires : tie.Need-nothing-requires
+nothing-requires c κs = search needs
+
+accepted-requires : tie.Need-accepted-requires
+accepted-requires c κs = search needs
+
+returns-2 : tie.Need-returns-2
+unfolding turned namesOf tells
+returns-2 c =
+    let at-accepted = c .before .before in
+    let at-nothing = at-accepted .before in
+    let at-if1 = at-nothing .before .before .before .before .before in
+    let at-of-timeout = at-if1 .before in
+    let a = at-of-timeout .before .before .args in
+    let t = tables (a .head .now) (a .links .now) (a .searches .now) (a .numbers .now) (a .texts .now) in
+    let room = length (a .outbox .now) in
+    let answer = at-accepted .accepted .ensures (a .links .now) (a .searches .now) (a .texts .now) in
+    let early : a .time < poll (heldIn t) = omega (arith, c .if2 .taken, ap (λ (x : Answer). x .poll) answer) in
+    lending.done-answers t t (Timeout (a .time) room) 0 _ _ (sym (at-of-timeout .of-timeout .ensures _ _ refl) ∙ at-if1 .if1 .left) (idle-done (heldIn t) (a .time) room early)
+    (at-nothing .nothing .ensures .0 ∙ idle-counts (heldIn t) (a .time) room early) (at-nothing .nothing .ensures .1) (idle-sent (heldIn t) (a .time) room (a .outbox .now) early) answer
+
 of-up-links-requires : tie.Need-of-up-links-requires
 of-up-links-requires c κs = search needs
 
@@ -49,7 +72,7 @@ timer-in-requires c κs = search needs
 send-timeout-requires : tie.Need-send-timeout-requires
 unfolding checks namesOf
 send-timeout-requires c κs =
-    let at-if1 = c .before .before .before .before .before .before .before .before .before .before .before .before .before .before .before .before in
+    let at-if1 = c .before .before .before .before .before .before .before .before .before .before .before .before .before .before .before .before .before .before .before .before .before .before .before .before in
     let at-of-timeout = at-if1 .before in
     let a = at-of-timeout .before .before .args in
     let t = tables (a .head .now) (a .links .now) (a .searches .now) (a .numbers .now) (a .texts .now) in
@@ -70,15 +93,15 @@ set-timer-requires c κs = search needs
 sending-requires : tie.Need-sending-requires
 sending-requires c κs = search needs
 
-accepted-requires : tie.Need-accepted-requires
-accepted-requires c κs = search needs
+accepted-requires-2 : tie.Need-accepted-requires-2
+accepted-requires-2 c κs = search needs
 
 same-length : tie.Need-same-length
 same-length c = c .before .before .before .before .before .before .before .before .before .before .before .before .before .before .before .send-timeout .kept .0
 
-returns-2 : tie.Need-returns-2
+returns-3 : tie.Need-returns-3
 unfolding turned namesOf heldIn contextAfter acts results records tells result checks refreshRecords
-returns-2 c =
+returns-3 c =
     let at-set-timer = c .before .before .before .before .before .before in
     let at-rolled = at-set-timer .before in
     let at-serve-all = at-rolled .before .before in
@@ -86,7 +109,7 @@ returns-2 c =
     let at-timer-in = at-send-timeout .before .before .before .before .before .before .before .before .before in
     let at-timer-in-arg2 = at-timer-in .before in
     let at-of-up-links = at-timer-in-arg2 .before .before .before in
-    let at-if1 = at-of-up-links .before .before .before .before in
+    let at-if1 = at-of-up-links .before .before .before .before .before .before .before .before .before .before .before .before in
     let at-of-timeout = at-if1 .before in
     let a = at-of-timeout .before .before .args in
     let size : length (a .head .now) ≡ headPlaces = omega (arith, at-timer-in-arg2 .timer-in-arg2 .given .0) in
@@ -106,7 +129,7 @@ returns-2 c =
     (c .before .sending .ensures .0 ∙ (λ i. sends (s .first i) (s .second i)) ∙ sym (answering.plus-zeros (sends (sumOf (aloneAt (a .time)) names) (sumOf (groupAt (a .time)) names)))) (c .before .sending .ensures .1)
     (answering.sent-as (at-send-timeout .send-timeout .ensures)
     (λ i. timeoutOn (at-of-up-links .of-up-links .ensures .held i) (leb (at-timer-in .timer-in .ensures i .«next_salvo») (a .time)) (a .time) (searchesIn head (a .searches .now)) names))
-    (c .accepted .ensures _ _ _)
+    (c .accepted2 .ensures _ _ _)
 
 pub handle-timeout-spec : {M : Type 1} → statement M
 handle-timeout-spec =
@@ -115,6 +138,9 @@ handle-timeout-spec =
     of-timeout-requires
     refused-requires
     returns
+    nothing-requires
+    accepted-requires
+    returns-2
     of-up-links-requires
     timer-in-requires
     send-timeout-requires
@@ -122,6 +148,6 @@ handle-timeout-spec =
     rolled-requires
     set-timer-requires
     sending-requires
-    accepted-requires
+    accepted-requires-2
     same-length
-    returns-2)
+    returns-3)

@@ -1,13 +1,13 @@
 -- Laws of the table of names: a row of the two arrays read, changed, put in and taken out.
 use mathlib.Core.Path.{_≡_, refl, sym, _∙_, ap, subst}
-use mathlib.Core.List.{List, [], _∷_, _++_, append-assoc}
+use mathlib.Core.List.{List, [], _∷_, _++_, append-assoc, append-nil}
 use Prim.Native.Nat.{ℕ, suc, min, _+_, _*_, _-_, _≤_, _<_}
 use native.Mathlib.Nat.{add-zero, mod-eq-of-lt, min-eq-left, min-eq-right}
 use native.Mathlib.Decide.{decLe}
 use native.Mathlib.Numerals.{add-one}
 use native.Mathlib.Omega.{arith}
-use lib.ListN.{length, take, drop, set, getD, length-take, length-drop, drop-of-length-le}
-use lib.Seq.{drop-cons, take-add, take-take, take-all, take-at, drop-at, drop-drop, length-take-le, getD-take, getD-drop, getD-set-same, getD-set-other}
+use lib.ListN.{length, take, drop, set, getD, length-take, length-drop, length-set, drop-of-length-le}
+use lib.Seq.{drop-cons, take-add, take-suc, take-suc-set, take-take, take-all, take-at, drop-at, drop-drop, length-take-le, getD-take, getD-drop, getD-set-same, getD-set-other}
 use Rattle.text.specs.Put.{overwritten, Put}
 use Rattle.message.specs.Build.{typeMax, nameMax}
 use Rattle.engine.specs.Sizes.{advertisementsMax, locationMax}
@@ -113,10 +113,6 @@ pub location-fits : {r : List ℕ} (i : ℕ) (ns ts : List ℕ) → r ≡ entryA
 unfolding entryIn
 location-fits i ns ts e = text-fits (getD (row numbersWidth i ns) 2 0) locationPlace locationMax (row textsWidth i ts) e
 
-pub answer-fits : {r : List ℕ} (i : ℕ) (ns ts : List ℕ) → r ≡ entryAt i ns ts .answer → length r ≤ typeMax
-unfolding entryIn
-answer-fits i ns ts e = text-fits (getD (row numbersWidth i ns) 3 0) answerPlace typeMax (row textsWidth i ts) e
-
 pub reply-at : (i : ℕ) (ns : List ℕ)
     → (let at : ℕ → ℕ = λ j. getD ns (numbersWidth * i + j) 0 in replyOf (at 4) (at 5) (at 6) (at 7) (at 8) ≡ replyAt i ns)
 unfolding replyIn
@@ -197,12 +193,6 @@ module _ (n place size : ℕ) (a b : List ℕ) (h : place + size ≤ n) where
   same-part : n ≤ length a → n ≤ length b → take n a ≡ take n b → take size (drop place a) ≡ take size (drop place b)
   same-part f g e = in-front a f ∙ ap (λ (l : List ℕ). drop place (take (place + size) l)) e ∙ sym (in-front b g)
 
-pub answered : {q q′ t : List ℕ} {r : ℕ} → length q ≡ textsWidth → length t ≡ typeMax → Put q answerPlace t q′ r → Answered t q q′
-answered {q} {q′} {t} g h p = record {
-  front = put-front (omega arith) p;
-  answer = ap (λ (k : ℕ). take k (drop answerPlace q′)) (sym h) ∙ put-there (omega arith) p;
-}
-
 pub new-texts : (q a b c n k l : List ℕ) {r s t : ℕ} → length q ≡ textsWidth → length a ≡ textsWidth → length b ≡ textsWidth → length c ≡ textsWidth
     → length n ≤ nameMax → length k ≤ typeMax → length l ≤ locationMax
     → Put q 0 n a r → Put a kindPlace k b s → Put b locationPlace l c t → NewTexts n k l c
@@ -220,6 +210,73 @@ new-texts q a b c n k l eq ea eb ec hn hk hl x y z =
           ∙ put-there (omega arith) y;
       location = take-take (length l) locationMax (drop locationPlace c) hl ∙ put-there (omega arith) z;
     }
+
+-- ---- a type's field, byte by byte: the first i bytes from a place on are read
+module _ (ts : List ℕ) (place : ℕ) where
+  pub record FieldRead (i : ℕ) (out : List ℕ) : Type 0 where
+    pub few : i ≤ typeMax
+    pub size : length out ≡ typeMax
+    pub done : take i out ≡ take i (drop place ts)
+
+  pub field-turn : {i : ℕ} {out : List ℕ} → place + typeMax ≤ length ts → i < typeMax → FieldRead i out → FieldRead (i + 1) (set out i (getD ts (place + i) 0))
+  field-turn {i} {out} fits h r =
+      let x = getD ts (place + i) 0 in
+      let d = drop place ts in
+      record {
+        few = omega arith;
+        size = length-set out i x ∙ r .size;
+        done =
+            ap (λ (k : ℕ). take k (set out i x)) (add-one i)
+            ∙ take-suc-set out i x (omega arith)
+            ∙ (λ j. r .done j ++ (sym (getD-drop place ts i 0) j ∷ []))
+            ∙ sym (take-suc d i 0 (omega (arith, length-drop place ts)))
+            ∙ ap (λ (k : ℕ). take k d) (sym (add-one i));
+      }
+
+  pub field-over : {i : ℕ} {out : List ℕ} → typeMax ≤ i → FieldRead i out → out ≡ take typeMax (drop place ts)
+  field-over {i} {out} h r =
+      let e : i ≡ typeMax = omega arith in
+      sym (take-all i out (omega arith)) ∙ r .done ∙ ap (λ (k : ℕ). take k (drop place ts)) e
+
+-- the first i bytes of an answer type are written into its place in the texts of a row
+module _ (q xs : List ℕ) where
+  pub record FieldWritten (i : ℕ) (out : List ℕ) : Type 0 where
+    pub few : i ≤ typeMax
+    pub size : length out ≡ length q
+    pub done : take (answerPlace + i) out ≡ take answerPlace q ++ take i xs
+
+  pub answer-start : FieldWritten 0 q
+  answer-start = record { few = omega arith; size = refl; done = sym (append-nil (take answerPlace q)) }
+
+  module _ (wide : length q ≡ textsWidth) (full : length xs ≡ typeMax) where
+    pub answer-turn : {i : ℕ} {out : List ℕ} → i < typeMax → FieldWritten i out → FieldWritten (i + 1) (set out (answerPlace + i) (getD xs i 0))
+    answer-turn {i} {out} h w =
+        let x = getD xs i 0 in
+        let e : answerPlace + (i + 1) ≡ suc (answerPlace + i) = omega arith in
+        record {
+          few = omega arith;
+          size = length-set out (answerPlace + i) x ∙ w .size;
+          done =
+              ap (λ (k : ℕ). take k (set out (answerPlace + i) x)) e
+              ∙ take-suc-set out (answerPlace + i) x (omega arith)
+              ∙ ap (λ (t : List ℕ). t ++ (x ∷ [])) (w .done)
+              ∙ append-assoc (take answerPlace q) (take i xs) (x ∷ [])
+              ∙ ap (λ (t : List ℕ). take answerPlace q ++ t) (sym (take-suc xs i 0 (omega arith)) ∙ ap (λ (k : ℕ). take k xs) (sym (add-one i)));
+        }
+
+    pub answer-over : {i : ℕ} {out : List ℕ} → typeMax ≤ i → FieldWritten i out → Answered xs q out
+    answer-over {i} {out} h w =
+        let f = length-take-le answerPlace q (omega arith) in
+        let e : out ≡ take answerPlace q ++ xs =
+        sym (take-all (answerPlace + i) out (omega arith)) ∙ w .done ∙ ap (λ (t : List ℕ). take answerPlace q ++ t) (take-all i xs (omega arith))
+        in
+        record {
+          front = ap (take answerPlace) e ∙ take-at (take answerPlace q) xs answerPlace f;
+          answer =
+              ap (λ (t : List ℕ). take typeMax (drop answerPlace t)) e
+              ∙ ap (take typeMax) (drop-at (take answerPlace q) xs answerPlace f)
+              ∙ take-all typeMax xs (omega arith);
+        }
 
 -- ---- a row replaced, as a part `[w * i..w * i + w]` of its array that was lent comes back
 part-is : (a w : ℕ) (l : List ℕ) → take ((a + w) - a) (drop a l) ≡ take w (drop a l)

@@ -1,28 +1,25 @@
 -- Laws of loops over the names in their arrays: sums, the earliest instant, and a table of which each entry is changed in place.
 use mathlib.Core.Path.{_≡_, refl, sym, _∙_, ap}
-use mathlib.Core.Bool.{true, false, false≢true}
+use mathlib.Core.Bool.{Bool, true, false, cond, false≢true}
 use mathlib.Core.List.{List, [], _∷_, _++_, map, append-assoc, append-nil}
 use Prim.Native.Nat.{ℕ, suc, _+_, _≤_, _<_}
 use native.Mathlib.Numerals.{add-one}
 use native.Mathlib.Omega.{arith}
-use lib.ListN.{length, take, drop, set, getD, length-map, length-take, drop-of-length-le}
+use lib.ListN.{length, take, drop, set, getD, length-map, drop-of-length-le}
 use lib.Seq.{take-suc, drop-cons, set-at, getD-at, set-getD, take-all, length-take-le}
-use Rattle.text.specs.Bytes.{equal}
-use Rattle.message.specs.Build.{typeMax}
-use Rattle.engine.specs.Rows.{row}
 use Rattle.engine.specs.Delay.{delay}
-use Rattle.engine.specs.Target.{ssdpAll}
 use Rattle.engine.specs.Held.{Text, Advertisement}
 use Rattle.engine.specs.Calls.{Query}
 use Rattle.engine.specs.Records.{isDue}
 use Rattle.engine.specs.Replies as replies
 use Rattle.engine.specs.Replies.{sumOf, waits, sooner, soonest, isNone, answerType, askedNeed, askedAnswer, hits, asked, matchedBy, joinedBy, servedNeed, served, isAlone, isGroup, aloneAt, groupAt, result}
 use Rattle.engine.specs.Passes.{askedBy}
-use Rattle.engine.specs.Arrays.{numbersWidth, textsWidth, kindPlace, entryIn, replyAt, entryAt, nameCount, namesIn}
-use Rattle.engine.specs.Changes.{changeAt, blank, withActive, PassOne, PassAll, AskedBy}
+use Rattle.engine.specs.Arrays.{entryIn, replyAt, entryAt, nameCount, namesIn}
+use Rattle.engine.specs.Changes.{changeAt, blank, withActive, PassOne, PassAll, Opening, AskedBy}
 use Rattle.engine.specs.declared.advertisement.Endpoint.{Endpoint}
 use Rattle.engine.specs.declared.advertisement.ResponseNeeded.{ResponseNeeded}
 use Rattle.engine.specs.declared.advertisement.ResponseNeeded.the-variants.{None, Multicast, Unicast}
+use Rattle.engine.specs.declared.names.ActiveAdvertisement.{ActiveAdvertisement}
 use Rattle.engine.proofs.Slots.{map-append}
 use Rattle.engine.proofs.Passes.{Summing, sum-start, sum-turn, sum-over, soonest-turn, soonest-over}
 use Rattle.engine.proofs.Waits.{asked-parts}
@@ -33,13 +30,6 @@ module _ (i : ℕ) (ns ts : List ℕ) where
   pub needed-is : {n : ResponseNeeded} → n ≡ replyAt i ns → n ≡ entryAt i ns ts .needed
   unfolding entryIn
   needed-is e = e
-
-  pub kind-few : {k : Text} → k ≡ entryAt i ns ts .kind → length k ≤ typeMax
-  unfolding entryIn
-  kind-few e =
-      let r = row numbersWidth i ns in
-      let q = row textsWidth i ts in
-      omega (arith, ap length e, length-take (getD r 1 0) (take typeMax (drop kindPlace q)), length-take typeMax (drop kindPlace q))
 
 -- ---- the waiting replies: how many there are of the entries so far, and the earliest instant with theirs
 pub record Waiting (time : ℕ) (l : List Advertisement) (i sum poll : ℕ) : Type 0 where
@@ -129,6 +119,38 @@ module _ {A : Type 0} (f : A → A) (g h : A → ℕ) (d : A) (l : List A) where
         second = omega (arith, p .second);
       }
 
+-- ---- a search and one waiting reply: one opens where none waits, with its answer type; else the searcher joins it
+-- what the search makes of it depends on the sender and the receiver alone
+pub need-of : (due : ℕ) (target : Text) (sender : Endpoint) (receiver : ℕ) (n : ResponseNeeded)
+    → askedNeed true due (askedBy [] sender receiver) n ≡ askedNeed true due (askedBy target sender receiver) n
+need-of due target sender receiver None = refl
+need-of due target sender receiver (Multicast d) = refl
+need-of due target sender receiver (Unicast d s r) = refl
+
+module _ (due : ℕ) (q : Query) (kind answer : Text) where
+  record Opens (n : ResponseNeeded) : Type 0 where
+    pub reply : Unicast due (q .sender) (q .receiver) ≡ askedNeed true due q n
+    pub type : answerType (q .target) kind ≡ askedAnswer true q kind n answer
+    pub none : 0 ≡ waits n
+
+  none-waits : (n : ResponseNeeded) → isNone n ≡ true → Opens n
+  none-waits None e = record { reply = refl; type = refl; none = refl }
+  none-waits (Multicast d) e = absurd (false≢true e)
+  none-waits (Unicast d s r) e = absurd (false≢true e)
+
+  one-waits : (n : ResponseNeeded) → isNone n ≡ false → (answer ≡ askedAnswer true q kind n answer) × (1 ≡ waits n)
+  one-waits None e = absurd (false≢true (sym e))
+  one-waits (Multicast d) e = (refl, refl)
+  one-waits (Unicast d s r) e = (refl, refl)
+
+-- the type that an opened reply answers in
+module _ {all : Bool} (kind target : Text) where
+  pub own-type : all ≡ true → kind ≡ cond all kind target
+  own-type e = rw e
+
+  pub target-type : all ≡ false → target ≡ cond all kind target
+  target-type e = rw e
+
 -- ---- one entry: a search
 module _ (due : ℕ) (q : Query) (a : Advertisement) where
   asked-with : {n : ResponseNeeded} {t : Text} → n ≡ askedNeed (hits q a) due q (a .needed) → t ≡ askedAnswer (hits q a) q (a .kind) (a .needed) (a .answer)
@@ -136,24 +158,37 @@ module _ (due : ℕ) (q : Query) (a : Advertisement) where
   unfolding asked
   asked-with p r = λ i. record { name = a .name; kind = a .kind; location = a .location; needed = p i; answer = r i }
 
-  -- with what was read of it
-  pub asked-entry : {m n : ResponseNeeded} {k t u : Text} → m ≡ a .needed → u ≡ a .answer → k ≡ a .kind → n ≡ askedNeed true due q m → t ≡ askedAnswer true q k m u
-      → hits q a ≡ true → withActive n t a ≡ asked due q a
-  asked-entry e v w p r f =
-      asked-with (rw f (p ∙ ap (askedNeed true due q) e)) (rw f (r ∙ (λ i. askedAnswer true q (w i) (e i) (v i))))
-
   module _ {l : List Advertisement} {i : ℕ} (here : getD l i blank ≡ a) where
-    pub ask-hit : {l′ : List Advertisement} {n : ResponseNeeded} {t : Text} {w : ℕ} → hits q a ≡ true → withActive n t a ≡ asked due q a
-        → l′ ≡ changeAt blank i (withActive n t) l → (w ≡ waits (a .needed)) × (w ≤ 1) → PassOne (asked due q) (matchedBy q) (joinedBy q) blank i l l′ 1 w
-    unfolding matchedBy joinedBy
-    ask-hit {n = n} {t = t} f p e x =
-        let m : 1 ≡ matchedBy q a = rw f in
-        let j : waits (a .needed) ≡ joinedBy q a = rw f in
-        record {
-          table = e ∙ ap (λ (y : Advertisement). set l i y) (ap (withActive n t) here ∙ p ∙ ap (asked due q) (sym here));
-          first = (m ∙ ap (matchedBy q) (sym here), omega arith);
-          second = (x .0 ∙ j ∙ ap (joinedBy q) (sym here), x .1);
-        }
+    module _ (f : hits q a ≡ true) where
+      ask-hit : {l′ : List Advertisement} {n : ResponseNeeded} {t : Text} {w : ℕ} → n ≡ askedNeed true due q (a .needed) → t ≡ askedAnswer true q (a .kind) (a .needed) (a .answer)
+          → l′ ≡ changeAt blank i (withActive n t) l → w ≡ waits (a .needed) → w ≤ 1 → PassOne (asked due q) (matchedBy q) (joinedBy q) blank i l l′ 1 w
+      unfolding matchedBy joinedBy
+      ask-hit {n = n} {t = t} p r e x g =
+          let m : 1 ≡ matchedBy q a = rw f in
+          let j : waits (a .needed) ≡ joinedBy q a = rw f in
+          let s : withActive n t a ≡ asked due q a = asked-with (rw f p) (rw f r) in
+          record {
+            table = e ∙ ap (λ (y : Advertisement). set l i y) (ap (withActive n t) here ∙ s ∙ ap (asked due q) (sym here));
+            first = (m ∙ ap (matchedBy q) (sym here), omega arith);
+            second = (x ∙ j ∙ ap (joinedBy q) (sym here), g);
+          }
+
+      -- no reply waits: what the search opens is stored
+      pub ask-opens : {l′ : List Advertisement} {m : ResponseNeeded} {all : Bool} (x y : ActiveAdvertisement) → Opening (q .target) due (q .sender) (q .receiver) all x
+          → m ≡ a .needed → isNone m ≡ true
+          → (y .«response_needed» ≡ x .«response_needed») × (take (y .«answer_len») (y .answer) ≡ cond all (a .kind) (take (x .«answer_len») (x .answer)))
+          → l′ ≡ changeAt blank i (withActive (y .«response_needed») (take (y .«answer_len») (y .answer))) l
+          → PassOne (asked due q) (matchedBy q) (joinedBy q) blank i l l′ 1 0
+      ask-opens x y o e z p r =
+          let k = none-waits due q (a .kind) (a .answer) (a .needed) (ap isNone (sym e) ∙ z) in
+          ask-hit (p .0 ∙ o .reply ∙ k .reply) (p .1 ∙ (λ j. cond (o .every j) (a .kind) (o .answer j)) ∙ k .type) r (k .none) (omega arith)
+
+      -- one waits: the joined reply is stored, and the answer type stays
+      pub ask-joins : {l′ : List Advertisement} {m n : ResponseNeeded} → m ≡ a .needed → isNone m ≡ false → n ≡ askedNeed true due q m
+          → l′ ≡ changeAt blank i (λ b. withActive n (b .answer) b) l → PassOne (asked due q) (matchedBy q) (joinedBy q) blank i l l′ 1 1
+      ask-joins {n = n} e z p r =
+          let k = one-waits due q (a .kind) (a .answer) (a .needed) (ap isNone (sym e) ∙ z) in
+          ask-hit (p ∙ ap (askedNeed true due q) e) (k .0) (r ∙ ap (λ (b : Advertisement). set l i (withActive n (b .answer) (getD l i blank))) here) (k .1) (omega arith)
 
     pub ask-miss : hits q a ≡ false → PassOne (asked due q) (matchedBy q) (joinedBy q) blank i l l 0 0
     unfolding matchedBy joinedBy
@@ -166,31 +201,6 @@ module _ (due : ℕ) (q : Query) (a : Advertisement) where
           first = (m ∙ ap (matchedBy q) (sym here), omega arith);
           second = (j ∙ ap (joinedBy q) (sym here), omega arith);
         }
-
--- the reply depends on the sender and the receiver alone, and the answer type changes where one opens
-pub need-of : (due : ℕ) (target : Text) (sender : Endpoint) (receiver : ℕ) (n : ResponseNeeded)
-    → askedNeed true due (askedBy [] sender receiver) n ≡ askedNeed true due (askedBy target sender receiver) n
-need-of due target sender receiver None = refl
-need-of due target sender receiver (Multicast d) = refl
-need-of due target sender receiver (Unicast d s r) = refl
-
-module _ (q : Query) (kind answer : Text) where
-  pub opened-type : (n : ResponseNeeded) → isNone n ≡ true → answerType (q .target) kind ≡ askedAnswer true q kind n answer
-  opened-type None e = refl
-  opened-type (Multicast d) e = absurd (false≢true e)
-  opened-type (Unicast d s r) e = absurd (false≢true e)
-
-  pub kept-type : (n : ResponseNeeded) → isNone n ≡ false → answer ≡ askedAnswer true q kind n answer
-  kept-type None e = absurd (false≢true (sym e))
-  kept-type (Multicast d) e = refl
-  kept-type (Unicast d s r) e = refl
-
-module _ (target kind : Text) where
-  pub own-type : equal target ssdpAll ≡ true → kind ≡ answerType target kind
-  own-type e = rw e
-
-  pub target-type : equal target ssdpAll ≡ false → target ≡ answerType target kind
-  target-type e = rw e
 
 -- a search on all: replies depend on its target, sender and receiver alone
 pub asked-by : {l l′ : List Advertisement} {m n : ℕ} (seed due : ℕ) (q : Query) → due ≡ q .time + delay seed (q .mx)

@@ -226,6 +226,14 @@ module _ (s t : List ℕ) where
       go false true Invalid e = no-more (equal s t) (hasColon t && equal (basePart s) (basePart t))
       go false false n e = no-more (equal s t) false
 
+  pub wants-equal : equal s t ≡ true → true ≡ targetMatch s t
+  unfolding targetMatch
+  wants-equal e = rw e (go (equal s ssdpAll))
+    where
+      go : (a : Bool) → true ≡ (a || true || versionMatch s t)
+      go true = refl
+      go false = refl
+
 pub wants-version : (s : List ℕ) (i n : ℕ) → Version i n ≡ wantedOf s → Versioned s i n
 unfolding wantedOf
 wants-version s i n e = go (equal s ssdpAll) (hasColon s) (version s) refl refl refl e

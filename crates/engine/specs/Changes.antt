@@ -1,16 +1,21 @@
 -- What a function makes of a row, of an entry of a table, and of every entry.
 use Prim.Native.Nat.{ℕ, _+_, _*_, _≤_}
 use mathlib.Core.Path.{_≡_}
+use mathlib.Core.Bool.{Bool}
 use mathlib.Core.List.{List, [], _++_, map}
 use lib.ListN.{length, take, drop, set, getD}
+use Rattle.text.specs.Bytes.{equal}
+use Rattle.engine.specs.Target.{ssdpAll}
 use Rattle.engine.specs.Held.{Text, Link, Advertisement}
 use Rattle.engine.specs.Calls.{Query, Asks}
 use Rattle.engine.specs.Replies.{sumOf, result}
 use Rattle.engine.specs.Arrays.{linkWidth, linkIn, linkRows, numbersWidth, textsWidth, replyIn, textIn, kindPlace, locationPlace, answerPlace, entryIn, entries}
 use Rattle.message.specs.Build.{typeMax, nameMax}
 use Rattle.engine.specs.Sizes.{advertisementsMax, linksMax, locationMax}
+use Rattle.engine.specs.declared.advertisement.Endpoint.{Endpoint}
 use Rattle.engine.specs.declared.advertisement.ResponseNeeded.{ResponseNeeded}
-use Rattle.engine.specs.declared.advertisement.ResponseNeeded.the-variants.{None}
+use Rattle.engine.specs.declared.advertisement.ResponseNeeded.the-variants.{None, Unicast}
+use Rattle.engine.specs.declared.names.ActiveAdvertisement.{ActiveAdvertisement}
 
 -- ---- entry i of a list changed; a place outside the list changes nothing
 abbrev pub changeAt : {A : Type 0} → A → ℕ → (A → A) → List A → List A
@@ -81,6 +86,12 @@ pub record LinkFilled (i : ℕ) (a : Link) (links links′ : List ℕ) : Type 0 
 pub record LinksAfter (n : ℕ) (links : List ℕ) (l : List Link) : Type 0 where
   pub few : n ≤ linksMax
   pub rows : linkRows n links ≡ l
+
+-- ---- what a search opens: a reply to its sender that answers in the target; `all` tells whether it asks for all types, and is answered in each name's own
+pub record Opening (target : Text) (due : ℕ) (sender : Endpoint) (receiver : ℕ) (all : Bool) (a : ActiveAdvertisement) : Type 0 where
+  pub every : all ≡ equal target ssdpAll
+  pub reply : a .«response_needed» ≡ Unicast due sender receiver
+  pub answer : take (a .«answer_len») (a .answer) ≡ target
 
 -- ---- a search on the names: those after it, and what it counts (document 01, 'Engine and ledger')
 pub record AskedBy (seed : ℕ) (q : Query) (l l′ : List Advertisement) (m n : ℕ) : Type 0 where

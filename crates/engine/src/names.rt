@@ -111,6 +111,20 @@ pub(crate) fn answer_at<'a>(numbers: &[u64], texts: &'a [u8], i: usize) -> &'a [
     text_in(texts, TEXTS_WIDTH * i + ANSWER_PLACE, TYPE_SIZE, len)
 }
 
+// A type's whole field of a row, from its place in the texts on.
+fn field_at(texts: &[u8], place: usize) -> [u8; TYPE_SIZE]
+    requires { ⌜ place + typeMax ≤ length (now texts) ⌝ }
+    ensures { λ r. ⌜ r ≡ take typeMax (drop place (now (texts .entry))) ⌝ }
+{
+    let mut out = [0u8; TYPE_SIZE];
+    let mut i = 0;
+    while i < TYPE_SIZE {
+        out[i] = texts[place + i];
+        i += 1;
+    }
+    out
+}
+
 // A waiting reply from its numbers.
 fn reply_of(code: u64, due: u64, sender: u64, port: u64, receiver: u64) -> ResponseNeeded
     ensures { λ r. ⌜ r ≡ replyOf code due sender port receiver ⌝ }
@@ -191,11 +205,15 @@ fn set_active(row: &mut [u64], reply: ResponseNeeded, len: u64)
 }
 
 // Another answer type.
-fn set_answer(row: &mut [u8], answer: &[u8; TYPE_SIZE])
+fn set_answer(row: &mut [u8], answer: [u8; TYPE_SIZE])
     requires { ⌜ length (now row) ≡ textsWidth ⌝ }
-    ensures { λ _. ⌜ Answered (now (answer .entry)) (now (row .entry)) (now (row .exit)) ⌝ }
+    ensures { λ _. ⌜ Answered answer (now (row .entry)) (now (row .exit)) ⌝ }
 {
-    put(row, ANSWER_PLACE, answer);
+    let mut i = 0;
+    while i < TYPE_SIZE {
+        row[ANSWER_PLACE + i] = answer[i];
+        i += 1;
+    }
 }
 
 // The numbers of a new name, for which no reply waits.
@@ -238,12 +256,29 @@ pub(crate) fn active_at(numbers: &[u64], texts: &[u8], i: usize) -> ActiveAdvert
     ensures { λ r. ⌜ (r .«response_needed» ≡ entryAt i (now (numbers .entry)) (now (texts .entry)) .needed) × (take (r .«answer_len») (r .answer) ≡ entryAt i (now (numbers .entry)) (now (texts .entry)) .answer) ⌝ }
 {
     let needed = reply_at(numbers, i);
-    let text = answer_at(numbers, texts, i);
-    let bytes = crate::field::text80(text);
+    let field = field_at(texts, TEXTS_WIDTH * i + ANSWER_PLACE);
     ActiveAdvertisement {
         response_needed: needed,
-        answer: bytes,
-        answer_len: text.len(),
+        answer: field,
+        answer_len: size_of(numbers[NUMBERS_WIDTH * i + ANSWER_LENGTH]),
+    }
+}
+
+// A waiting reply for it that answers in its own type.
+pub(crate) fn own_type_at(
+    numbers: &[u64],
+    texts: &[u8],
+    i: usize,
+    needed: ResponseNeeded,
+) -> ActiveAdvertisement
+    requires { ⌜ (i < advertisementsMax) × NameArrays (now numbers) (now texts) ⌝ }
+    ensures { λ r. ⌜ (r .«response_needed» ≡ needed) × (take (r .«answer_len») (r .answer) ≡ entryAt i (now (numbers .entry)) (now (texts .entry)) .kind) ⌝ }
+{
+    let field = field_at(texts, TEXTS_WIDTH * i + TYPE_PLACE);
+    ActiveAdvertisement {
+        response_needed: needed,
+        answer: field,
+        answer_len: size_of(numbers[NUMBERS_WIDTH * i + TYPE_LENGTH]),
     }
 }
 
@@ -259,7 +294,7 @@ pub(crate) fn store_active(numbers: &mut [u64], texts: &mut [u8], i: usize, a: A
     set_active(&mut numbers[f..g], needed, number_of(a.answer_len));
     let s = TEXTS_WIDTH * i;
     let t = s + TEXTS_WIDTH;
-    set_answer(&mut texts[s..t], &answer);
+    set_answer(&mut texts[s..t], answer);
 }
 
 // ---- the table in byte order of name

@@ -7,6 +7,7 @@ use crate::names::ActiveAdvertisement;
 use crate::names::active_at;
 use crate::names::count_of;
 use crate::names::kind_at;
+use crate::names::own_type_at;
 use crate::names::reply_at;
 use crate::names::store_active;
 use crate::names::store_reply;
@@ -22,7 +23,7 @@ use crate::wanted::Wanted;
 use crate::wanted::wanted_of;
 use crate::wanted::wants;
 ghost use mathlib.Core.Path.{_≡_};
-ghost use mathlib.Core.Bool.{true};
+ghost use mathlib.Core.Bool.{true, cond};
 ghost use mathlib.Core.List.{List};
 ghost use Prim.Native.Nat.{ℕ, _<_, _≤_};
 ghost use lib.ListN.{length, take};
@@ -31,10 +32,11 @@ ghost use Rattle.engine.specs.Sizes.{advertisementsMax, timeMax};
 ghost use Rattle.engine.specs.Delay.{delay};
 ghost use Rattle.engine.specs.Target.{targetMatch};
 ghost use Rattle.engine.specs.Wanted.{wantedOf};
-ghost use Rattle.engine.specs.Replies.{answerType, hits, askedNeed, askedAnswer, asked, matchedBy, joinedBy, served, aloneAt, groupAt, waiting, soonest};
+ghost use Rattle.engine.specs.Replies.{asked, matchedBy, joinedBy, served, aloneAt, groupAt, waiting, soonest};
 ghost use Rattle.engine.specs.Passes.{askedBy};
 ghost use Rattle.engine.specs.Arrays.{headPlaces, numbersSize, entryAt, replyAt, entries, namesIn, NameArrays};
-ghost use Rattle.engine.specs.Changes.{blank, withActive, PassOne, PassAll, AskedBy};
+ghost use Rattle.engine.specs.Changes.{blank, PassOne, PassAll, Opening, AskedBy};
+ghost use Rattle.engine.specs.declared.advertisement.ResponseNeeded.the-variants.{Unicast};
 
 // How many replies wait, and the earliest of an instant and theirs.
 pub struct Waits {
@@ -64,56 +66,16 @@ pub(crate) fn waits_in(head: &[u64], numbers: &[u64], time: u64) -> Waits
 
 // ---- a search
 
-// The type that an opened reply answers in: the target, or the name's own type for `ssdp:all`.
-fn answer_to(a: ActiveAdvertisement, target: &[u8], kind: &[u8]) -> ActiveAdvertisement
-    requires { ⌜ (length (now target) ≤ typeMax) × (length (now kind) ≤ typeMax) ⌝ }
-    ensures { λ r. ⌜ (r .«response_needed» ≡ a .«response_needed») × (take (r .«answer_len») (r .answer) ≡ answerType (now (target .entry)) (now (kind .entry))) ⌝ }
+// What a search opens: a reply to its sender that answers in the target.
+fn opened_by(target: &[u8], due: u64, sender: Endpoint, receiver: u32) -> ActiveAdvertisement
+    requires { ⌜ length (now target) ≤ typeMax ⌝ }
+    ensures { λ r. ⌜ (r .«response_needed» ≡ Unicast due sender receiver) × (take (r .«answer_len») (r .answer) ≡ now (target .entry)) ⌝ }
 {
-    let needed = a.response_needed;
-    if is_all(target) {
-        let own = text80(kind);
-        return ActiveAdvertisement {
-            response_needed: needed,
-            answer: own,
-            answer_len: kind.len(),
-        };
-    }
-    let asked = text80(target);
+    let bytes = text80(target);
     ActiveAdvertisement {
-        response_needed: needed,
-        answer: asked,
+        response_needed: ResponseNeeded::Unicast(due, sender, receiver),
+        answer: bytes,
         answer_len: target.len(),
-    }
-}
-
-// An advertisement of a type, after a search that asks for it.
-fn answering(
-    a: ActiveAdvertisement,
-    kind: &[u8],
-    due: u64,
-    target: &[u8],
-    sender: Endpoint,
-    receiver: u32,
-) -> ActiveAdvertisement
-    requires { ⌜ (length (now target) ≤ typeMax) × (length (now kind) ≤ typeMax) ⌝ }
-    ensures { λ r. ⌜ (r .«response_needed» ≡ askedNeed true due (askedBy (now (target .entry)) sender receiver) (a .«response_needed»)) × (take (r .«answer_len») (r .answer) ≡ askedAnswer true (askedBy (now (target .entry)) sender receiver) (now (kind .entry)) (a .«response_needed») (take (a .«answer_len») (a .answer))) ⌝ }
-{
-    let needed = a.response_needed;
-    let reply = asked_reply(needed, due, sender, receiver);
-    if opens(needed) {
-        let typed = answer_to(a, target, kind);
-        let opened = typed.answer;
-        return ActiveAdvertisement {
-            response_needed: reply,
-            answer: opened,
-            answer_len: typed.answer_len,
-        };
-    }
-    let kept = a.answer;
-    ActiveAdvertisement {
-        response_needed: reply,
-        answer: kept,
-        answer_len: a.answer_len,
     }
 }
 
@@ -125,21 +87,22 @@ fn is_asked(numbers: &[u64], texts: &[u8], i: usize, target: &[u8], wanted: Want
     wants(target, wanted, kind_at(numbers, texts, i))
 }
 
-// Name i after a search that asks for it, taken out.
-fn asked_at(
+// What a search opens at name i: `ssdp:all`, which asks for all types, is answered in the name's own type.
+fn opened_at(
     numbers: &[u64],
     texts: &[u8],
     i: usize,
-    due: u64,
-    target: &[u8],
-    sender: Endpoint,
-    receiver: u32,
+    all: bool,
+    opened: ActiveAdvertisement,
 ) -> ActiveAdvertisement
-    requires { ⌜ (i < advertisementsMax) × NameArrays (now numbers) (now texts) × (length (now target) ≤ typeMax) ⌝ }
-    ensures { λ r. ⌜ (hits (askedBy (now (target .entry)) sender receiver) (entryAt i (now (numbers .entry)) (now (texts .entry))) ≡ true → withActive (r .«response_needed») (take (r .«answer_len») (r .answer)) (entryAt i (now (numbers .entry)) (now (texts .entry))) ≡ asked due (askedBy (now (target .entry)) sender receiver) (entryAt i (now (numbers .entry)) (now (texts .entry)))) ⌝ }
+    requires { ⌜ (i < advertisementsMax) × NameArrays (now numbers) (now texts) ⌝ }
+    ensures { λ r. ⌜ (r .«response_needed» ≡ opened .«response_needed») × (take (r .«answer_len») (r .answer) ≡ cond all (entryAt i (now (numbers .entry)) (now (texts .entry)) .kind) (take (opened .«answer_len») (opened .answer))) ⌝ }
 {
-    let a = active_at(numbers, texts, i);
-    answering(a, kind_at(numbers, texts, i), due, target, sender, receiver)
+    if all {
+        let needed = opened.response_needed;
+        return own_type_at(numbers, texts, i, needed);
+    }
+    opened
 }
 
 // How many names a search matched, and how many waiting replies it joined.
@@ -148,28 +111,55 @@ pub struct Asked {
     pub joined: usize,
 }
 
+// A search at name i, for which it asks: a reply opens, or the searcher joins the one that waits.
+fn ask_for(
+    numbers: &mut [u64],
+    texts: &mut [u8],
+    i: usize,
+    all: bool,
+    opened: ActiveAdvertisement,
+    due: u64,
+    sender: Endpoint,
+    receiver: u32,
+) -> Asked
+    requires { ⌜ (i < advertisementsMax) × NameArrays (now numbers) (now texts) ⌝ }
+    ensures { λ r. ⌜ ((target : List ℕ) (n : ℕ) → Opening target due sender receiver all opened → targetMatch target (entryAt i (now (numbers .entry)) (now (texts .entry)) .kind) ≡ true → i < n → n ≤ advertisementsMax → PassOne (asked due (askedBy target sender receiver)) (matchedBy (askedBy target sender receiver)) (joinedBy (askedBy target sender receiver)) blank i (entries n (now (numbers .entry)) (now (texts .entry))) (entries n (now (numbers .exit)) (now (texts .exit))) (r .matched) (r .joined)) ⌝ }
+{
+    let a = active_at(numbers, texts, i);
+    let needed = a.response_needed;
+    if opens(needed) {
+        let after = opened_at(numbers, texts, i, all, opened);
+        store_active(numbers, texts, i, after);
+        return Asked {
+            matched: 1,
+            joined: 0,
+        };
+    }
+    store_reply(numbers, i, asked_reply(needed, due, sender, receiver));
+    Asked {
+        matched: 1,
+        joined: 1,
+    }
+}
+
 // A search at name i.
 fn ask_one(
     numbers: &mut [u64],
     texts: &mut [u8],
     i: usize,
-    due: u64,
     target: &[u8],
     wanted: Wanted,
+    all: bool,
+    opened: ActiveAdvertisement,
+    due: u64,
     sender: Endpoint,
     receiver: u32,
 ) -> Asked
-    requires { ⌜ (i < advertisementsMax) × NameArrays (now numbers) (now texts) × (length (now target) ≤ typeMax) × (wanted ≡ wantedOf (now target)) ⌝ }
+    requires { ⌜ (i < advertisementsMax) × NameArrays (now numbers) (now texts) × (wanted ≡ wantedOf (now target)) × Opening (now target) due sender receiver all opened ⌝ }
     ensures { λ r. ⌜ ((n : ℕ) → i < n → n ≤ advertisementsMax → PassOne (asked due (askedBy (now (target .entry)) sender receiver)) (matchedBy (askedBy (now (target .entry)) sender receiver)) (joinedBy (askedBy (now (target .entry)) sender receiver)) blank i (entries n (now (numbers .entry)) (now (texts .entry))) (entries n (now (numbers .exit)) (now (texts .exit))) (r .matched) (r .joined)) ⌝ }
 {
     if is_asked(numbers, texts, i, target, wanted) {
-        let joined = wait_of(reply_at(numbers, i));
-        let after = asked_at(numbers, texts, i, due, target, sender, receiver);
-        store_active(numbers, texts, i, after);
-        return Asked {
-            matched: 1,
-            joined: joined,
-        };
+        return ask_for(numbers, texts, i, all, opened, due, sender, receiver);
     }
     Asked {
         matched: 0,
@@ -192,11 +182,24 @@ fn ask_all(
 {
     let n = count_of(head);
     let wanted = wanted_of(target);
+    let all = is_all(target);
+    let opened = opened_by(target, due, sender, receiver);
     let mut matched = 0;
     let mut joined = 0;
     let mut i = 0;
     while i < n {
-        let step = ask_one(numbers, texts, i, due, target, wanted, sender, receiver);
+        let step = ask_one(
+            numbers,
+            texts,
+            i,
+            target,
+            wanted,
+            all,
+            opened,
+            due,
+            sender,
+            receiver,
+        );
         matched += step.matched;
         joined += step.joined;
         i += 1;

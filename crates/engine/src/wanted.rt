@@ -58,9 +58,12 @@ pub(crate) fn wants(search: &[u8], wanted: Wanted, candidate: &[u8]) -> bool
     requires { ⌜ wanted ≡ wantedOf (now search) ⌝ }
     ensures { λ r. ⌜ r ≡ targetMatch (now (search .entry)) (now (candidate .entry)) ⌝ }
 {
+    if bytes::equal(search, candidate) {
+        return true;
+    }
     match wanted {
         Wanted::All => true,
-        Wanted::Same => bytes::equal(search, candidate),
+        Wanted::Same => false,
         Wanted::Version(i, w) => is_later(search, i, w, candidate),
     }
 }

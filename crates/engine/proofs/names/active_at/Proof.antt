@@ -1,7 +1,6 @@
--- The reply, and the answer type in front of its array, into which it fits.
+-- The reply, and the answer type's whole field with its length as stored.
 use mathlib.Core.Path.{_∙_}
-use lib.Seq.{take-all}
-use Rattle.message.specs.Build.{typeMax}
+use lib.ListN.{take}
 use Rattle.engine.specs.Arrays.{entryIn}
 use Rattle.engine.proofs.NameRows as names
 use borrow.Author.Needs.{needs}
@@ -11,18 +10,37 @@ use Rattle.engine.proofs.names.active_at.Tie as tie
 reply-at-requires : tie.Need-reply-at-requires
 reply-at-requires c κs = search needs
 
-answer-at-requires : tie.Need-answer-at-requires
-answer-at-requires c κs = search needs
+mul-field-at : tie.Need-mul-field-at
+mul-field-at c = search needs
 
-text80-requires : tie.Need-text80-requires
-text80-requires c κs = search needs
+add-field-at : tie.Need-add-field-at
+add-field-at c = search needs
+
+field-at-requires : tie.Need-field-at-requires
+field-at-requires c κs = search needs
+
+mul-size-of : tie.Need-mul-size-of
+mul-size-of c = search needs
+
+add-size-of : tie.Need-add-size-of
+add-size-of c = search needs
+
+mul-size-of-2 : tie.Need-mul-size-of-2
+mul-size-of-2 c = search needs
+
+shared-slice-read-size-of : tie.Need-shared-slice-read-size-of
+shared-slice-read-size-of c = search needs
+
+size-of-requires : tie.Need-size-of-requires
+size-of-requires c κs = search needs
 
 returns : tie.Need-returns
 unfolding entryIn
 returns c =
-    let s = c .before .before .before .before .before .args in
-    let e = c .before .answer-at .ensures in
-    (c .before .before .reply-at .ensures, c .text80 .ensures ∙ take-all typeMax (c .before .answer-at .result .now) (names.answer-fits (s .i) (s .numbers .now) (s .texts .now) e) ∙ e)
+    let s = c .before .before .before .before .before .before in
+    (c .before .before .before .reply-at .ensures, (λ j. take (c .size-of .ensures j) (c .before .before .field-at .ensures j)) ∙ names.answer-at (s .args .i) (s .args .numbers .now) (s .args .texts .now) (s .pre .0) (s .pre .1 .1))
 
 pub active-at-spec : {M : Type 1} → statement M
-active-at-spec = tie.close (tie.spec reply-at-requires answer-at-requires text80-requires returns)
+active-at-spec =
+    tie.close
+    (tie.spec reply-at-requires mul-field-at add-field-at field-at-requires mul-size-of add-size-of mul-size-of-2 shared-slice-read-size-of size-of-requires returns)

@@ -55,9 +55,9 @@ same-length-2 c = search needs
 
 returns : tie.Need-returns
 returns c =
-    let s = c .before .before .before .before .before .before .before .before .before .before .before .before .before .args in
-    let row = names.active-row (s .i) (s .numbers .now) (s .texts .now) (c .before .before .before .before .before .before .before .set-active .last .0) (c .before .before .set-answer .last .0) (s .a .«response_needed») (s .a .«answer_len») (s .a .answer)
-    (omega (arith, c .before .before .before .before .before .before .numbers .given)) (omega (arith, c .before .texts .given)) (omega arith) (c .before .before .before .before .before .before .before .before .number-of .ensures) (c .before .before .before .before .before .before .before .set-active .ensures) (c .before .before .set-answer .ensures)
+    let s = c .before .before .before .before .before .before .before .before .before .before .before .before .args in
+    let row = names.active-row (s .i) (s .numbers .now) (s .texts .now) (c .before .before .before .before .before .before .set-active .last .0) (c .before .before .set-answer .last .0) (s .a .«response_needed») (s .a .«answer_len») (s .a .answer)
+    (omega (arith, c .before .before .before .before .before .numbers .given)) (omega (arith, c .before .texts .given)) (omega arith) (c .before .before .before .before .before .before .before .number-of .ensures) (c .before .before .before .before .before .before .set-active .ensures) (c .before .before .set-answer .ensures)
     in
     λ n h g. names.put-active n (s .i) (s .numbers .now) (s .texts .now) (omega arith) (omega arith) _ _ h g row
 

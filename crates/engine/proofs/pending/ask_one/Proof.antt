@@ -1,10 +1,9 @@
 -- A name that the search asks for is answered and counted; any other stays.
-use mathlib.Core.Path.{sym, _∙_, ap}
-use Rattle.engine.specs.Replies.{waits}
+use mathlib.Core.Path.{sym, _∙_}
 use Rattle.engine.specs.Passes.{askedBy}
 use Rattle.engine.specs.Arrays.{entryAt}
 use Rattle.engine.proofs.NameRows.{entry-is}
-use Rattle.engine.proofs.TablePasses.{needed-is, ask-hit, ask-miss}
+use Rattle.engine.proofs.TablePasses.{ask-miss}
 use borrow.Author.Needs.{needs}
 use Rattle.engine.proofs.pending.ask_one.Statement.{statement}
 use Rattle.engine.proofs.pending.ask_one.Tie as tie
@@ -12,17 +11,8 @@ use Rattle.engine.proofs.pending.ask_one.Tie as tie
 is-asked-requires : tie.Need-is-asked-requires
 is-asked-requires c κs = search needs
 
-reply-at-requires : tie.Need-reply-at-requires
-reply-at-requires c κs = search needs
-
-wait-of-requires : tie.Need-wait-of-requires
-wait-of-requires c κs = search needs
-
-asked-at-requires : tie.Need-asked-at-requires
-asked-at-requires c κs = search needs
-
-store-active-requires : tie.Need-store-active-requires
-store-active-requires c κs = search needs
+ask-for-requires : tie.Need-ask-for-requires
+ask-for-requires c κs = search needs
 
 same-length : tie.Need-same-length
 same-length c = search needs
@@ -33,10 +23,8 @@ same-length-2 c = search needs
 returns : tie.Need-returns
 returns c =
     λ n h m.
-    let a = c .before .before .before .before .before .before .before .before .before .before .before .before .before .before .before .before .before .before .before .before .args in
-    let f = sym (c .before .before .before .before .before .before .before .before .before .before .before .before .before .before .is-asked .ensures) ∙ c .before .before .before .before .before .before .before .before .before .before .before .before .before .if1 .taken in
-    let w = ap waits (needed-is (a .i) (a .numbers .now) (a .texts .now) (c .before .before .before .before .before .before .before .before .before .before .before .reply-at .ensures)) in
-    ask-hit (a .due) (askedBy (a .target .now) (a .sender) (a .receiver)) (entryAt (a .i) (a .numbers .now) (a .texts .now)) (entry-is n (a .i) (a .numbers .now) (a .texts .now) h) f (c .before .before .before .before .before .before .before .asked-at .ensures f) (c .before .before .before .before .store-active .ensures n h m) (c .before .before .before .before .before .before .before .before .before .before .wait-of .ensures .0 ∙ w, c .before .before .before .before .before .before .before .before .before .before .wait-of .ensures .1)
+    let s = c .before .before .before .before .before .before .before .before .before .before .before .before .before .before in
+    c .before .before .before .before .ask-for .ensures (s .args .target .now) n (s .pre .3) (sym (c .before .before .before .before .before .before .before .before .is-asked .ensures) ∙ c .before .before .before .before .before .before .before .if1 .taken) h m
 
 same-length-3 : tie.Need-same-length-3
 same-length-3 c = search needs
@@ -55,10 +43,7 @@ ask-one-spec =
     tie.close
     (tie.spec
     is-asked-requires
-    reply-at-requires
-    wait-of-requires
-    asked-at-requires
-    store-active-requires
+    ask-for-requires
     same-length
     same-length-2
     returns

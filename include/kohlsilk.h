@@ -19,9 +19,19 @@
 extern "C" {
 #endif
 
-/* The length of an outbox that no call refuses, and what a record takes of it. */
-#define KOHLSILK_OUTBOX 62880
+/* How much an engine holds: names, subscriptions, links, addresses of a link; and the longest texts, in bytes. */
+#define KOHLSILK_NAMES 8
+#define KOHLSILK_SUBSCRIPTIONS 4
+#define KOHLSILK_LINKS 3
+#define KOHLSILK_ADDRESSES 2
+#define KOHLSILK_NAME_SIZE 128
+#define KOHLSILK_TYPE_SIZE 80
+#define KOHLSILK_LOCATION_SIZE 120
+
+/* What a record takes of an outbox, the most records of a call, and the length of an outbox that no call refuses. */
 #define KOHLSILK_RECORD 524
+#define KOHLSILK_RECORDS ((2 * KOHLSILK_NAMES + KOHLSILK_SUBSCRIPTIONS) * KOHLSILK_LINKS * KOHLSILK_ADDRESSES)
+#define KOHLSILK_OUTBOX (KOHLSILK_RECORD * KOHLSILK_RECORDS)
 
 /* A record lies in the outbox at byte KOHLSILK_RECORD * k: destination (4 bytes), port (2), source (4) and the message's length (2),
  * each with its highest byte first; then the message, from byte KOHLSILK_MESSAGE on. */
@@ -36,80 +46,34 @@ enum kohlsilk_refusal {
     KOHLSILK_ACCEPTED = 0,
     KOHLSILK_TIME_LATE = 1,         /* a time above 2^63 - 1 */
     KOHLSILK_OUTBOX_SHORT = 2,      /* an outbox under KOHLSILK_OUTBOX bytes */
-    KOHLSILK_TEXT_OVER_SIZE = 3,    /* a type over 80 bytes, a name over 128, a location over 120 (in a build: 135) */
+    KOHLSILK_TEXT_OVER_SIZE = 3,    /* a type, a name or a location over its size (in a build a location may have 135 bytes) */
     KOHLSILK_TEXT_NOT_GOOD = 4,     /* a text not UTF-8, holding a line end, or starting or ending in white space */
-    KOHLSILK_TABLE_FULL = 5,        /* a ninth name, or a fifth subscription */
+    KOHLSILK_TABLE_FULL = 5,        /* a new name or a subscription where KOHLSILK_NAMES or KOHLSILK_SUBSCRIPTIONS are held */
     KOHLSILK_BUFFER_SHORT = 6,      /* a buffer shorter than the message to be built */
     KOHLSILK_DATAGRAM_EMPTY = 7,
     KOHLSILK_DATAGRAM_INVALID = 8,  /* no message that the engine reads */
     KOHLSILK_WAIT_ZERO = 9,         /* a search with MX 0 */
-    KOHLSILK_TARGET_OVER_SIZE = 10, /* a search target over 80 bytes */
+    KOHLSILK_TARGET_OVER_SIZE = 10, /* a search target over KOHLSILK_TYPE_SIZE bytes */
     KOHLSILK_INDEX_ZERO = 11,       /* news of a link with index 0 */
     KOHLSILK_ADDRESS_LENGTH = 12,   /* an address of neither 4 nor 16 bytes */
-    KOHLSILK_LINKS_FULL = 13,       /* a fourth multicast link, or a third address on a link */
+    KOHLSILK_LINKS_FULL = 13,       /* a new multicast link or an address where KOHLSILK_LINKS or KOHLSILK_ADDRESSES are held */
     KOHLSILK_JOIN_FAILED = 14       /* the host could not join the group on a new link */
 };
 
-/* The engine. Its fields are public so that its size is known; only the calls below read or write them. */
-struct kohlsilk_timer {
-    uint32_t random_seed;
-    uint64_t next_salvo;
-    uint8_t phase;
-};
-
-struct kohlsilk_link {
-    uint32_t index;
-    uint32_t up;
-    size_t count;
-    uint32_t addresses[2];
-};
-
-struct kohlsilk_links {
-    size_t count;
-    struct kohlsilk_link slots[3];
-};
-
-struct kohlsilk_type {
-    uint8_t kind[80];
-    size_t kind_len;
-};
-
-struct kohlsilk_searches {
-    size_t count;
-    struct kohlsilk_type slots[4];
-};
-
-struct kohlsilk_reply {
-    uint64_t due;
-    uint32_t sender;
-    uint32_t receiver;
-    uint16_t port;
-    uint8_t needed;
-};
-
-struct kohlsilk_name {
-    uint8_t name[128];
-    size_t name_len;
-    uint8_t location[120];
-    size_t location_len;
-};
-
+/* The engine: five arrays of numbers, in which any content is an engine. Its fields are public so that its size is known; only the calls below read or
+ * write them. */
 struct kohlsilk_engine {
-    uint32_t random_seed;
-    struct kohlsilk_timer timer;
-    struct kohlsilk_links interfaces;
-    struct kohlsilk_searches active_searches;
-    size_t count;
-    struct kohlsilk_type kinds[8];
-    struct kohlsilk_type answers[8];
-    struct kohlsilk_reply replies[8];
-    struct kohlsilk_name names[8];
+    uint64_t head[6];                                                   /* the timer, and how many of each are held */
+    uint64_t links[(3 + KOHLSILK_ADDRESSES) * KOHLSILK_LINKS];          /* a row for each link */
+    uint8_t searches[(1 + KOHLSILK_TYPE_SIZE) * KOHLSILK_SUBSCRIPTIONS]; /* for each subscription */
+    uint64_t numbers[9 * KOHLSILK_NAMES];                               /* for each name: lengths, and the waiting reply */
+    uint8_t texts[(KOHLSILK_NAME_SIZE + 2 * KOHLSILK_TYPE_SIZE + KOHLSILK_LOCATION_SIZE) * KOHLSILK_NAMES];
 };
 
 /* What a call on an engine answers. Of a refused call all but `refusal`, `waiting` and `poll` is 0. */
 struct kohlsilk_answer {
     uint32_t refusal; /* 0, or why the call was refused */
-    size_t records;   /* how many records the call wrote into the outbox, at most 120 */
+    size_t records;   /* how many records the call wrote into the outbox, at most KOHLSILK_RECORDS */
     size_t matched;   /* names that the datagram's search matched */
     size_t joined;    /* those of them for which a reply waited already */
     size_t alone;     /* replies sent to their searcher */
@@ -122,50 +86,121 @@ struct kohlsilk_answer {
     uint32_t leave;   /* the outcome handed in with the deletion of a link that was held */
 };
 
+/* What the library exports: each call is lent the arrays that it needs. A host calls the functions behind these, which take the engine whole. */
+struct kohlsilk_answer kohlsilk_lent_new(uint64_t *head, const uint64_t *numbers, uint32_t random_seed, uint64_t time);
+struct kohlsilk_answer kohlsilk_lent_new_link(uint64_t *head, uint64_t *links, const uint8_t *searches, const uint64_t *numbers,
+                                              const uint8_t *texts, uint32_t index, uint32_t flags, uint32_t outcome, uint8_t *outbox,
+                                              size_t outbox_len);
+struct kohlsilk_answer kohlsilk_lent_deleted_link(uint64_t *head, uint64_t *links, const uint64_t *numbers, uint32_t index,
+                                                  uint32_t outcome);
+struct kohlsilk_answer kohlsilk_lent_new_address(uint64_t *head, uint64_t *links, const uint8_t *searches, const uint64_t *numbers,
+                                                 const uint8_t *texts, uint32_t index, const uint8_t *address, size_t address_len,
+                                                 uint8_t *outbox, size_t outbox_len);
+struct kohlsilk_answer kohlsilk_lent_deleted_address(uint64_t *head, uint64_t *links, const uint64_t *numbers, uint32_t index,
+                                                     const uint8_t *address, size_t address_len);
+struct kohlsilk_answer kohlsilk_lent_subscribe(uint64_t *head, const uint64_t *links, uint8_t *searches, const uint64_t *numbers,
+                                               const uint8_t *kind, size_t kind_len, uint8_t *outbox, size_t outbox_len);
+struct kohlsilk_answer kohlsilk_lent_advertise(uint64_t *head, const uint64_t *links, uint64_t *numbers, uint8_t *texts,
+                                               const uint8_t *name, size_t name_len, const uint8_t *kind, size_t kind_len,
+                                               const uint8_t *location, size_t location_len, uint8_t *outbox, size_t outbox_len);
+struct kohlsilk_answer kohlsilk_lent_deadvertise(uint64_t *head, const uint64_t *links, uint64_t *numbers, uint8_t *texts,
+                                                 const uint8_t *name, size_t name_len, uint8_t *outbox, size_t outbox_len);
+struct kohlsilk_answer kohlsilk_lent_refresh(const uint64_t *head, const uint64_t *links, const uint8_t *searches,
+                                             const uint64_t *numbers, const uint8_t *texts, uint8_t *outbox, size_t outbox_len);
+struct kohlsilk_answer kohlsilk_lent_on_data(const uint64_t *head, const uint8_t *searches, uint64_t *numbers, uint8_t *texts,
+                                             uint64_t time, uint32_t sender, uint16_t port, uint32_t receiver, const uint8_t *datagram,
+                                             size_t datagram_len);
+struct kohlsilk_answer kohlsilk_lent_handle_timeout(uint64_t *head, const uint64_t *links, const uint8_t *searches, uint64_t *numbers,
+                                                    const uint8_t *texts, uint64_t time, uint8_t *outbox, size_t outbox_len);
+struct kohlsilk_answer kohlsilk_lent_reset_refresh_timer(uint64_t *head, const uint64_t *numbers, uint64_t time);
+
 /* Makes an engine in memory that the host lends, whatever is in it. Its first salvo is due at `time`. The seed spreads the
  * delays of replies and refreshes: take a random one for each machine. */
-struct kohlsilk_answer kohlsilk_new(struct kohlsilk_engine *engine, uint32_t random_seed, uint64_t time);
+static inline struct kohlsilk_answer kohlsilk_new(struct kohlsilk_engine *engine, uint32_t random_seed, uint64_t time)
+{
+    return kohlsilk_lent_new(engine->head, engine->numbers, random_seed, time);
+}
 
 /* A link is there, or has turned up or down. For one that is new the host first joins the group, 239.255.255.250, on it and
  * hands in 0, or the error's number. A link without KOHLSILK_MULTICAST is passed over. */
-struct kohlsilk_answer kohlsilk_new_link(struct kohlsilk_engine *engine, uint32_t index, uint32_t flags, uint32_t outcome,
-                                         uint8_t *outbox, size_t outbox_len);
+static inline struct kohlsilk_answer kohlsilk_new_link(struct kohlsilk_engine *engine, uint32_t index, uint32_t flags, uint32_t outcome,
+                                                       uint8_t *outbox, size_t outbox_len)
+{
+    return kohlsilk_lent_new_link(engine->head, engine->links, engine->searches, engine->numbers, engine->texts, index, flags, outcome,
+                                  outbox, outbox_len);
+}
 
 /* A link has gone; `outcome` is that of leaving the group on it. */
-struct kohlsilk_answer kohlsilk_deleted_link(struct kohlsilk_engine *engine, uint32_t index, uint32_t outcome);
+static inline struct kohlsilk_answer kohlsilk_deleted_link(struct kohlsilk_engine *engine, uint32_t index, uint32_t outcome)
+{
+    return kohlsilk_lent_deleted_link(engine->head, engine->links, engine->numbers, index, outcome);
+}
 
 /* An address, of 4 or 16 bytes, is on a link or has gone from it. One of 16 is passed over. */
-struct kohlsilk_answer kohlsilk_new_address(struct kohlsilk_engine *engine, uint32_t index, const uint8_t *address, size_t address_len,
-                                            uint8_t *outbox, size_t outbox_len);
-struct kohlsilk_answer kohlsilk_deleted_address(struct kohlsilk_engine *engine, uint32_t index, const uint8_t *address,
-                                                size_t address_len);
+static inline struct kohlsilk_answer kohlsilk_new_address(struct kohlsilk_engine *engine, uint32_t index, const uint8_t *address,
+                                                          size_t address_len, uint8_t *outbox, size_t outbox_len)
+{
+    return kohlsilk_lent_new_address(engine->head, engine->links, engine->searches, engine->numbers, engine->texts, index, address,
+                                     address_len, outbox, outbox_len);
+}
+
+static inline struct kohlsilk_answer kohlsilk_deleted_address(struct kohlsilk_engine *engine, uint32_t index, const uint8_t *address,
+                                                              size_t address_len)
+{
+    return kohlsilk_lent_deleted_address(engine->head, engine->links, engine->numbers, index, address, address_len);
+}
 
 /* Searches for a type, now and at each refresh. Subscriptions count from 0 in the order made. */
-struct kohlsilk_answer kohlsilk_subscribe(struct kohlsilk_engine *engine, const uint8_t *kind, size_t kind_len, uint8_t *outbox,
-                                          size_t outbox_len);
+static inline struct kohlsilk_answer kohlsilk_subscribe(struct kohlsilk_engine *engine, const uint8_t *kind, size_t kind_len,
+                                                        uint8_t *outbox, size_t outbox_len)
+{
+    return kohlsilk_lent_subscribe(engine->head, engine->links, engine->searches, engine->numbers, kind, kind_len, outbox, outbox_len);
+}
 
 /* Announces a service under a name (its USN), now and at each refresh; a name that is held is replaced. The host part of the
  * location becomes the address that a record is sent from. */
-struct kohlsilk_answer kohlsilk_advertise(struct kohlsilk_engine *engine, const uint8_t *name, size_t name_len, const uint8_t *kind,
-                                          size_t kind_len, const uint8_t *location, size_t location_len, uint8_t *outbox,
-                                          size_t outbox_len);
+static inline struct kohlsilk_answer kohlsilk_advertise(struct kohlsilk_engine *engine, const uint8_t *name, size_t name_len,
+                                                        const uint8_t *kind, size_t kind_len, const uint8_t *location,
+                                                        size_t location_len, uint8_t *outbox, size_t outbox_len)
+{
+    return kohlsilk_lent_advertise(engine->head, engine->links, engine->numbers, engine->texts, name, name_len, kind, kind_len, location,
+                                   location_len, outbox, outbox_len);
+}
 
 /* Says that the service of a name has gone. */
-struct kohlsilk_answer kohlsilk_deadvertise(struct kohlsilk_engine *engine, const uint8_t *name, size_t name_len, uint8_t *outbox,
-                                            size_t outbox_len);
+static inline struct kohlsilk_answer kohlsilk_deadvertise(struct kohlsilk_engine *engine, const uint8_t *name, size_t name_len,
+                                                          uint8_t *outbox, size_t outbox_len)
+{
+    return kohlsilk_lent_deadvertise(engine->head, engine->links, engine->numbers, engine->texts, name, name_len, outbox, outbox_len);
+}
 
 /* Announces all, and searches for all, at once. */
-struct kohlsilk_answer kohlsilk_refresh(struct kohlsilk_engine *engine, uint8_t *outbox, size_t outbox_len);
+static inline struct kohlsilk_answer kohlsilk_refresh(const struct kohlsilk_engine *engine, uint8_t *outbox, size_t outbox_len)
+{
+    return kohlsilk_lent_refresh(engine->head, engine->links, engine->searches, engine->numbers, engine->texts, outbox, outbox_len);
+}
 
 /* A datagram has come from `sender`, at the host's address `receiver`: for one sent to the group, the address of the link that it came by. */
-struct kohlsilk_answer kohlsilk_on_data(struct kohlsilk_engine *engine, uint64_t time, uint32_t sender, uint16_t port, uint32_t receiver,
-                                        const uint8_t *datagram, size_t datagram_len);
+static inline struct kohlsilk_answer kohlsilk_on_data(struct kohlsilk_engine *engine, uint64_t time, uint32_t sender, uint16_t port,
+                                                      uint32_t receiver, const uint8_t *datagram, size_t datagram_len)
+{
+    return kohlsilk_lent_on_data(engine->head, engine->searches, engine->numbers, engine->texts, time, sender, port, receiver, datagram,
+                                 datagram_len);
+}
 
 /* To be called once `poll` of the latest answer has come: sends the replies that are due, and the refresh salvo if that is. */
-struct kohlsilk_answer kohlsilk_handle_timeout(struct kohlsilk_engine *engine, uint64_t time, uint8_t *outbox, size_t outbox_len);
+static inline struct kohlsilk_answer kohlsilk_handle_timeout(struct kohlsilk_engine *engine, uint64_t time, uint8_t *outbox,
+                                                             size_t outbox_len)
+{
+    return kohlsilk_lent_handle_timeout(engine->head, engine->links, engine->searches, engine->numbers, engine->texts, time, outbox,
+                                        outbox_len);
+}
 
 /* Begins the refresh salvos anew, as after the network was away. */
-struct kohlsilk_answer kohlsilk_reset_refresh_timer(struct kohlsilk_engine *engine, uint64_t time);
+static inline struct kohlsilk_answer kohlsilk_reset_refresh_timer(struct kohlsilk_engine *engine, uint64_t time)
+{
+    return kohlsilk_lent_reset_refresh_timer(engine->head, engine->numbers, time);
+}
 
 /* Messages by themselves. */
 enum kohlsilk_kind {

@@ -57,6 +57,7 @@ pub struct Engine {
 
 // What a call answers: its refusal number (0: accepted), the records written, the five counts of the reply ledger that it adds,
 // the replies waiting and the instant to be polled at afterwards, the mask of subscriptions to tell and their number, and the leave outcome.
+#[repr(C)]
 pub struct Answer {
     pub refusal: u32,
     pub records: usize,

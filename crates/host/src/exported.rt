@@ -1,205 +1,232 @@
-// What is exported. Each call copies the lent engine and runs by value. Ten store the engine that they give back, where they are refused the one that
-// they were lent; `on_data` and `handle_timeout` store the parts that they change.
-use crate::calls;
-use crate::datagram;
-use crate::held::HeldAnswer;
-use crate::held::HeldEngine;
-use crate::timeout;
-ghost use mathlib.Core.List.{[]};
+// The engine's calls, as a host that is not Rattle links them: each is lent the arrays that it needs and hands them on. The contract of each is that of the
+// engine's own call, for every content of the arrays.
+use engine::advertisement::Endpoint;
+use engine::calls;
+use engine::engine::Answer;
+use engine::sizes::Head;
+use engine::sizes::Links;
+use engine::sizes::Numbers;
+use engine::sizes::Searches;
+use engine::sizes::Texts;
+ghost use mathlib.Core.List.{List, []};
+ghost use Prim.Native.Nat.{ℕ};
 ghost use lib.ListN.{length};
 ghost use Rattle.engine.specs.Calls.{NewLink, DeletedLink, NewAddress, DeletedAddress, Subscribe, Advertise, Deadvertise, Refresh, Datagram, Timeout, ResetTimer};
-ghost use Rattle.host.specs.Held.{endpointOf};
-ghost use Rattle.host.specs.Boundary.{Crosses, Starts};
+ghost use Rattle.engine.specs.Arrays.{tables};
+ghost use Rattle.engine.specs.Promises.{Answering, Beginning};
 
-// Fills the engine, whatever stood there; refused, with one of that seed at time 0.
+// Makes an engine in the lent arrays, whatever they hold; refused, one of that seed at time 0.
 #[no_mangle]
-pub extern "C" fn kohlsilk_new(engine: &mut HeldEngine, random_seed: u32, time: u64) -> HeldAnswer
-    ensures { λ r. ⌜ Starts «random_seed» time (now (engine .exit)) r ⌝ }
+pub extern "C" fn kohlsilk_lent_new(
+    head: &mut Head,
+    numbers: &Numbers,
+    random_seed: u32,
+    time: u64,
+) -> Answer
+    ensures { λ r. ⌜ ((links searches texts : List ℕ) → Beginning «random_seed» time (tables (now (head .exit)) links searches (now (numbers .entry)) texts) r) ⌝ }
 {
-    let done = calls::new(random_seed, time);
-    let after = done.engine;
-    *engine = after;
-    done.answer
+    calls::new(head, numbers, random_seed, time)
 }
 
-// Begins the refresh salvos anew, as after the network was away.
+// A link is there, or is up or down. The host has tried to join the group on a new one and hands in the outcome.
 #[no_mangle]
-pub extern "C" fn kohlsilk_reset_refresh_timer(engine: &mut HeldEngine, time: u64) -> HeldAnswer
-    ensures { λ r. ⌜ Crosses (now (engine .entry)) (ResetTimer time) [] [] (now (engine .exit)) r ⌝ }
-{
-    let before = *engine;
-    let done = calls::reset_refresh_timer(before, time);
-    let after = done.engine;
-    *engine = after;
-    done.answer
-}
-
-// Sends all announcements, then the searches.
-#[no_mangle]
-pub extern "C" fn kohlsilk_refresh(engine: &mut HeldEngine, outbox: &mut [u8]) -> HeldAnswer
-    ensures { λ r. ⌜ Crosses (now (engine .entry)) (Refresh (length (now (outbox .entry)))) (now (outbox .entry)) (now (outbox .exit)) (now (engine .exit)) r ⌝ }
-{
-    let before = *engine;
-    let done = calls::refresh(before, outbox);
-    let after = done.engine;
-    *engine = after;
-    done.answer
-}
-
-// A link is there, or is up or down; `outcome` is what joining the group on it gave.
-#[no_mangle]
-pub extern "C" fn kohlsilk_new_link(
-    engine: &mut HeldEngine,
+pub extern "C" fn kohlsilk_lent_new_link(
+    head: &mut Head,
+    links: &mut Links,
+    searches: &Searches,
+    numbers: &Numbers,
+    texts: &Texts,
     index: u32,
     flags: u32,
     outcome: u32,
     outbox: &mut [u8],
-) -> HeldAnswer
-    ensures { λ r. ⌜ Crosses (now (engine .entry)) (NewLink index flags outcome (length (now (outbox .entry)))) (now (outbox .entry)) (now (outbox .exit)) (now (engine .exit)) r ⌝ }
+) -> Answer
+    ensures { λ r. ⌜ Answering (tables (now (head .entry)) (now (links .entry)) (now (searches .entry)) (now (numbers .entry)) (now (texts .entry))) (NewLink index flags outcome (length (now (outbox .entry)))) (now (outbox .entry)) (now (outbox .exit)) (tables (now (head .exit)) (now (links .exit)) (now (searches .entry)) (now (numbers .entry)) (now (texts .entry))) r ⌝ }
 {
-    let before = *engine;
-    let done = calls::new_link(before, index, flags, outcome, outbox);
-    let after = done.engine;
-    *engine = after;
-    done.answer
+    calls::new_link(
+        head,
+        links,
+        searches,
+        numbers,
+        texts,
+        index,
+        flags,
+        outcome,
+        outbox,
+    )
 }
 
-// A link has gone; `outcome` is what leaving the group on it gave.
+// A link has gone; `outcome` is the host's from leaving the group on it, and is answered for a link that was held.
 #[no_mangle]
-pub extern "C" fn kohlsilk_deleted_link(
-    engine: &mut HeldEngine,
+pub extern "C" fn kohlsilk_lent_deleted_link(
+    head: &mut Head,
+    links: &mut Links,
+    numbers: &Numbers,
     index: u32,
     outcome: u32,
-) -> HeldAnswer
-    ensures { λ r. ⌜ Crosses (now (engine .entry)) (DeletedLink index outcome) [] [] (now (engine .exit)) r ⌝ }
+) -> Answer
+    ensures { λ r. ⌜ ((searches texts : List ℕ) → Answering (tables (now (head .entry)) (now (links .entry)) searches (now (numbers .entry)) texts) (DeletedLink index outcome) [] [] (tables (now (head .exit)) (now (links .exit)) searches (now (numbers .entry)) texts) r) ⌝ }
 {
-    let before = *engine;
-    let done = calls::deleted_link(before, index, outcome);
-    let after = done.engine;
-    *engine = after;
-    done.answer
+    calls::deleted_link(head, links, numbers, index, outcome)
 }
 
-// An address is there: its four bytes.
+// An address is there.
 #[no_mangle]
-pub extern "C" fn kohlsilk_new_address(
-    engine: &mut HeldEngine,
+pub extern "C" fn kohlsilk_lent_new_address(
+    head: &mut Head,
+    links: &mut Links,
+    searches: &Searches,
+    numbers: &Numbers,
+    texts: &Texts,
     index: u32,
     address: &[u8],
     outbox: &mut [u8],
-) -> HeldAnswer
-    ensures { λ r. ⌜ Crosses (now (engine .entry)) (NewAddress index (now (address .entry)) (length (now (outbox .entry)))) (now (outbox .entry)) (now (outbox .exit)) (now (engine .exit)) r ⌝ }
+) -> Answer
+    ensures { λ r. ⌜ Answering (tables (now (head .entry)) (now (links .entry)) (now (searches .entry)) (now (numbers .entry)) (now (texts .entry))) (NewAddress index (now (address .entry)) (length (now (outbox .entry)))) (now (outbox .entry)) (now (outbox .exit)) (tables (now (head .exit)) (now (links .exit)) (now (searches .entry)) (now (numbers .entry)) (now (texts .entry))) r ⌝ }
 {
-    let before = *engine;
-    let done = calls::new_address(before, index, address, outbox);
-    let after = done.engine;
-    *engine = after;
-    done.answer
+    calls::new_address(
+        head,
+        links,
+        searches,
+        numbers,
+        texts,
+        index,
+        address,
+        outbox,
+    )
 }
 
 // An address has gone.
 #[no_mangle]
-pub extern "C" fn kohlsilk_deleted_address(
-    engine: &mut HeldEngine,
+pub extern "C" fn kohlsilk_lent_deleted_address(
+    head: &mut Head,
+    links: &mut Links,
+    numbers: &Numbers,
     index: u32,
     address: &[u8],
-) -> HeldAnswer
-    ensures { λ r. ⌜ Crosses (now (engine .entry)) (DeletedAddress index (now (address .entry))) [] [] (now (engine .exit)) r ⌝ }
+) -> Answer
+    ensures { λ r. ⌜ ((searches texts : List ℕ) → Answering (tables (now (head .entry)) (now (links .entry)) searches (now (numbers .entry)) texts) (DeletedAddress index (now (address .entry))) [] [] (tables (now (head .exit)) (now (links .exit)) searches (now (numbers .entry)) texts) r) ⌝ }
 {
-    let before = *engine;
-    let done = calls::deleted_address(before, index, address);
-    let after = done.engine;
-    *engine = after;
-    done.answer
+    calls::deleted_address(head, links, numbers, index, address)
 }
 
-// Searches for a type, now and at each refresh.
+// Searches for a type, now and at each refresh; notices of it are told of from now on.
 #[no_mangle]
-pub extern "C" fn kohlsilk_subscribe(
-    engine: &mut HeldEngine,
+pub extern "C" fn kohlsilk_lent_subscribe(
+    head: &mut Head,
+    links: &Links,
+    searches: &mut Searches,
+    numbers: &Numbers,
     kind: &[u8],
     outbox: &mut [u8],
-) -> HeldAnswer
-    ensures { λ r. ⌜ Crosses (now (engine .entry)) (Subscribe (now (kind .entry)) (length (now (outbox .entry)))) (now (outbox .entry)) (now (outbox .exit)) (now (engine .exit)) r ⌝ }
+) -> Answer
+    ensures { λ r. ⌜ ((texts : List ℕ) → Answering (tables (now (head .entry)) (now (links .entry)) (now (searches .entry)) (now (numbers .entry)) texts) (Subscribe (now (kind .entry)) (length (now (outbox .entry)))) (now (outbox .entry)) (now (outbox .exit)) (tables (now (head .exit)) (now (links .entry)) (now (searches .exit)) (now (numbers .entry)) texts) r) ⌝ }
 {
-    let before = *engine;
-    let done = calls::subscribe(before, kind, outbox);
-    let after = done.engine;
-    *engine = after;
-    done.answer
+    calls::subscribe(head, links, searches, numbers, kind, outbox)
 }
 
-// Announces a service under a name, now and at each refresh.
+// Announces a service under a name, now and at each refresh. A name that is held is replaced, and its waiting reply dropped.
 #[no_mangle]
-pub extern "C" fn kohlsilk_advertise(
-    engine: &mut HeldEngine,
+pub extern "C" fn kohlsilk_lent_advertise(
+    head: &mut Head,
+    links: &Links,
+    numbers: &mut Numbers,
+    texts: &mut Texts,
     name: &[u8],
     kind: &[u8],
     location: &[u8],
     outbox: &mut [u8],
-) -> HeldAnswer
-    ensures { λ r. ⌜ Crosses (now (engine .entry)) (Advertise (now (name .entry)) (now (kind .entry)) (now (location .entry)) (length (now (outbox .entry)))) (now (outbox .entry)) (now (outbox .exit)) (now (engine .exit)) r ⌝ }
+) -> Answer
+    ensures { λ r. ⌜ ((searches : List ℕ) → Answering (tables (now (head .entry)) (now (links .entry)) searches (now (numbers .entry)) (now (texts .entry))) (Advertise (now (name .entry)) (now (kind .entry)) (now (location .entry)) (length (now (outbox .entry)))) (now (outbox .entry)) (now (outbox .exit)) (tables (now (head .exit)) (now (links .entry)) searches (now (numbers .exit)) (now (texts .exit))) r) ⌝ }
 {
-    let before = *engine;
-    let done = calls::advertise(before, name, kind, location, outbox);
-    let after = done.engine;
-    *engine = after;
-    done.answer
+    calls::advertise(head, links, numbers, texts, name, kind, location, outbox)
 }
 
-// Says that a service has gone.
+// Says that a service has gone. An unknown name does nothing.
 #[no_mangle]
-pub extern "C" fn kohlsilk_deadvertise(
-    engine: &mut HeldEngine,
+pub extern "C" fn kohlsilk_lent_deadvertise(
+    head: &mut Head,
+    links: &Links,
+    numbers: &mut Numbers,
+    texts: &mut Texts,
     name: &[u8],
     outbox: &mut [u8],
-) -> HeldAnswer
-    ensures { λ r. ⌜ Crosses (now (engine .entry)) (Deadvertise (now (name .entry)) (length (now (outbox .entry)))) (now (outbox .entry)) (now (outbox .exit)) (now (engine .exit)) r ⌝ }
+) -> Answer
+    ensures { λ r. ⌜ ((searches : List ℕ) → Answering (tables (now (head .entry)) (now (links .entry)) searches (now (numbers .entry)) (now (texts .entry))) (Deadvertise (now (name .entry)) (length (now (outbox .entry)))) (now (outbox .entry)) (now (outbox .exit)) (tables (now (head .exit)) (now (links .entry)) searches (now (numbers .exit)) (now (texts .exit))) r) ⌝ }
 {
-    let before = *engine;
-    let done = calls::deadvertise(before, name, outbox);
-    let after = done.engine;
-    *engine = after;
-    done.answer
+    calls::deadvertise(head, links, numbers, texts, name, outbox)
 }
 
-// A datagram has come from `sender` and `port`, at the address `receiver`.
+// Sends all announcements, then the searches.
 #[no_mangle]
-pub extern "C" fn kohlsilk_on_data(
-    engine: &mut HeldEngine,
+pub extern "C" fn kohlsilk_lent_refresh(
+    head: &Head,
+    links: &Links,
+    searches: &Searches,
+    numbers: &Numbers,
+    texts: &Texts,
+    outbox: &mut [u8],
+) -> Answer
+    ensures { λ r. ⌜ Answering (tables (now (head .entry)) (now (links .entry)) (now (searches .entry)) (now (numbers .entry)) (now (texts .entry))) (Refresh (length (now (outbox .entry)))) (now (outbox .entry)) (now (outbox .exit)) (tables (now (head .entry)) (now (links .entry)) (now (searches .entry)) (now (numbers .entry)) (now (texts .entry))) r ⌝ }
+{
+    calls::refresh(head, links, searches, numbers, texts, outbox)
+}
+
+// A datagram has come from `sender`, at the address `receiver`.
+#[no_mangle]
+pub extern "C" fn kohlsilk_lent_on_data(
+    head: &Head,
+    searches: &Searches,
+    numbers: &mut Numbers,
+    texts: &mut Texts,
     time: u64,
     sender: u32,
     port: u16,
     receiver: u32,
     datagram: &[u8],
-) -> HeldAnswer
-    ensures { λ r. ⌜ Crosses (now (engine .entry)) (Datagram time (endpointOf sender port) receiver (now (datagram .entry))) [] [] (now (engine .exit)) r ⌝ }
+) -> Answer
+    ensures { λ r. ⌜ ((links : List ℕ) → Answering (tables (now (head .entry)) links (now (searches .entry)) (now (numbers .entry)) (now (texts .entry))) (Datagram time (record { address = sender; port = port }) receiver (now (datagram .entry))) [] [] (tables (now (head .entry)) links (now (searches .entry)) (now (numbers .exit)) (now (texts .exit))) r) ⌝ }
 {
-    let before = *engine;
-    let done = datagram::on_data(before, time, sender, port, receiver, datagram);
-    if done.asked {
-        let answers = done.answers;
-        let replies = done.replies;
-        engine.answers = answers;
-        engine.replies = replies;
-    }
-    done.answer
+    let from = Endpoint {
+        address: sender,
+        port: port,
+    };
+    calls::on_data(
+        head,
+        searches,
+        numbers,
+        texts,
+        time,
+        from,
+        receiver,
+        datagram,
+    )
 }
 
 // Sends the refresh records, if the salvo is due, and the replies that are due.
 #[no_mangle]
-pub extern "C" fn kohlsilk_handle_timeout(
-    engine: &mut HeldEngine,
+pub extern "C" fn kohlsilk_lent_handle_timeout(
+    head: &mut Head,
+    links: &Links,
+    searches: &Searches,
+    numbers: &mut Numbers,
+    texts: &Texts,
     time: u64,
     outbox: &mut [u8],
-) -> HeldAnswer
-    ensures { λ r. ⌜ Crosses (now (engine .entry)) (Timeout time (length (now (outbox .entry)))) (now (outbox .entry)) (now (outbox .exit)) (now (engine .exit)) r ⌝ }
+) -> Answer
+    ensures { λ r. ⌜ Answering (tables (now (head .entry)) (now (links .entry)) (now (searches .entry)) (now (numbers .entry)) (now (texts .entry))) (Timeout time (length (now (outbox .entry)))) (now (outbox .entry)) (now (outbox .exit)) (tables (now (head .exit)) (now (links .entry)) (now (searches .entry)) (now (numbers .exit)) (now (texts .entry))) r ⌝ }
 {
-    let before = *engine;
-    let done = timeout::handle_timeout(before, time, outbox);
-    let timer = done.timer;
-    let replies = done.replies;
-    engine.refresh_timer = timer;
-    engine.replies = replies;
-    done.answer
+    calls::handle_timeout(head, links, searches, numbers, texts, time, outbox)
+}
+
+// Begins the refresh salvos anew, as after the network was away.
+#[no_mangle]
+pub extern "C" fn kohlsilk_lent_reset_refresh_timer(
+    head: &mut Head,
+    numbers: &Numbers,
+    time: u64,
+) -> Answer
+    ensures { λ r. ⌜ ((links searches texts : List ℕ) → Answering (tables (now (head .entry)) links searches (now (numbers .entry)) texts) (ResetTimer time) [] [] (tables (now (head .exit)) links searches (now (numbers .entry)) texts) r) ⌝ }
+{
+    calls::reset_refresh_timer(head, numbers, time)
 }

@@ -1,5 +1,6 @@
 //! Times of single calls on two engines, taken in turns so that a slow moment meets both. What makes the engines ready before each
-//! call is not timed, and the time of the clock itself is taken off.
+//! call is not timed, and the time of the clock itself is taken off. Where the clock ticks every 10 ns a median of single calls is a multiple of that; so
+//! a figure is the mean of the middle half of the times.
 use std::hint::black_box;
 use std::time::Instant;
 
@@ -14,8 +15,8 @@ pub fn row<S>(what: &str, records: usize, state: &mut S, ready: impl Fn(&mut S),
         b.push(time(|| rust(black_box(state))));
         clock.push(time(|| ()));
     }
-    let clock = median(clock);
-    let (a, b) = (median(a) - clock, median(b) - clock);
+    let clock = middle(clock);
+    let (a, b) = (middle(a) - clock, middle(b) - clock);
     println!("| {what} | {records} | {a:.0} | {b:.0} | {:.2} |", a / b);
 }
 
@@ -29,7 +30,9 @@ fn time(f: impl FnOnce()) -> f64 {
     start.elapsed().as_nanos() as f64
 }
 
-fn median(mut times: Vec<f64>) -> f64 {
+/// The mean of the middle half.
+fn middle(mut times: Vec<f64>) -> f64 {
     times.sort_by(f64::total_cmp);
-    times[times.len() / 2]
+    let half = &times[times.len() / 4..times.len() * 3 / 4];
+    half.iter().sum::<f64>() / half.len() as f64
 }

@@ -4,7 +4,7 @@ use cotton_ssdp::engine::{Callback, Engine};
 use cotton_ssdp::refresh_timer::Timebase;
 use cotton_ssdp::udp::{self, Multicast, TargetedSend};
 use cotton_ssdp::{Advertisement, Notification};
-use kohlsilk::{OUTBOX_SIZE, RECORD_SIZE};
+use kohlsilk::{flags, OUTBOX_SIZE, RECORD_SIZE};
 use std::cell::{Cell, RefCell};
 use std::net::{IpAddr, SocketAddr, SocketAddrV4};
 use std::rc::Rc;
@@ -79,21 +79,40 @@ pub struct Rust {
     told: Rc<Cell<u32>>,
 }
 
-/// Each call answers the records that it wrote; `on_data` how many subscriptions it told.
+/// `on_data` answers how many subscriptions it told.
 impl Rust {
     pub fn new() -> Self {
         let outbox = Outbox { bytes: vec![0; OUTBOX_SIZE].into(), count: Cell::new(0) };
         Rust { engine: Engine::new(0, 0), outbox, told: Rc::default() }
     }
 
-    pub fn link(&mut self, index: u32, addresses: [[u8; 4]; 2]) {
-        let index = InterfaceIndex(index.try_into().unwrap());
-        let link = NetworkEvent::NewLink(index, String::new(), Flags::UP | Flags::RUNNING | Flags::MULTICAST);
-        self.engine.on_network_event(&link, &self.outbox, &self.outbox).unwrap();
-        for address in addresses {
-            self.outbox.count.set(0);
-            self.engine.on_network_event(&NetworkEvent::NewAddr(index, IpAddr::from(address), 24), &self.outbox, &self.outbox).unwrap();
-        }
+    /// An engine anew, in the outbox that is there.
+    pub fn begin(&mut self) {
+        self.outbox.count.set(0);
+        self.engine = Engine::new(0, 0);
+    }
+
+    fn news(&mut self, event: &NetworkEvent) {
+        self.outbox.count.set(0);
+        self.engine.on_network_event(event, &self.outbox, &self.outbox).unwrap();
+    }
+
+    pub fn link(&mut self, index: u32, flags: u32) {
+        let named = [(flags::UP, Flags::UP), (flags::RUNNING, Flags::RUNNING), (flags::MULTICAST, Flags::MULTICAST)];
+        let all = named.iter().filter(|(bit, _)| flags & bit != 0).fold(Flags::empty(), |all, (_, flag)| all | *flag);
+        self.news(&NetworkEvent::NewLink(numbered(index), String::new(), all));
+    }
+
+    pub fn deleted_link(&mut self, index: u32) {
+        self.news(&NetworkEvent::DelLink(numbered(index)));
+    }
+
+    pub fn address(&mut self, index: u32, address: [u8; 4]) {
+        self.news(&NetworkEvent::NewAddr(numbered(index), IpAddr::from(address), 24));
+    }
+
+    pub fn deleted_address(&mut self, index: u32, address: [u8; 4]) {
+        self.news(&NetworkEvent::DelAddr(numbered(index), IpAddr::from(address), 24));
     }
 
     pub fn advertise(&mut self, name: &str, kind: &str, location: &str) {
@@ -102,27 +121,36 @@ impl Rust {
         self.engine.advertise(name.into(), advertisement, &self.outbox);
     }
 
+    pub fn deadvertise(&mut self, name: &str) {
+        self.outbox.count.set(0);
+        self.engine.deadvertise(name, &self.outbox);
+    }
+
     pub fn subscribe(&mut self, kind: &str) {
         self.outbox.count.set(0);
         self.engine.subscribe(kind.into(), Subscriber(self.told.clone()), &self.outbox);
     }
 
     pub fn on_data(&mut self, time: u64, sender: SocketAddrV4, receiver: [u8; 4], datagram: &[u8]) -> u32 {
+        self.outbox.count.set(0);
         self.told.set(0);
         self.engine.on_data(datagram, IpAddr::from(receiver), sender.into(), time);
         self.told.get()
     }
 
-    pub fn handle_timeout(&mut self, time: u64) -> usize {
+    pub fn handle_timeout(&mut self, time: u64) {
         self.outbox.count.set(0);
         self.engine.handle_timeout(&self.outbox, time);
-        self.outbox.count.get()
     }
 
-    pub fn refresh(&mut self) -> usize {
+    pub fn refresh(&mut self) {
         self.outbox.count.set(0);
         self.engine.refresh(&self.outbox);
-        self.outbox.count.get()
+    }
+
+    pub fn reset_refresh_timer(&mut self, time: u64) {
+        self.outbox.count.set(0);
+        self.engine.reset_refresh_timer(time);
     }
 
     pub fn poll(&self) -> u64 {
@@ -133,4 +161,8 @@ impl Rust {
     pub fn records(&self) -> Vec<Vec<u8>> {
         crate::records(&self.outbox.bytes.borrow(), self.outbox.count.get())
     }
+}
+
+fn numbered(index: u32) -> InterfaceIndex {
+    InterfaceIndex(index.try_into().unwrap())
 }

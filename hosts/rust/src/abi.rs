@@ -4,95 +4,34 @@
 //! Each declared function is proved to come back from any engine value, any numbers and any bytes, to read and write
 //! nothing but what it is lent, and to keep nothing of it.
 
-/// The engine as the host holds it: numbers alone, so that any bytes are a value of it.
+use crate::sizes::{HEAD_PLACES, LINKS, LINK_WIDTH, NAMES, NUMBERS_WIDTH, SEARCH_WIDTH, SUBSCRIPTIONS, TEXTS_WIDTH};
+
+type Head = [u64; HEAD_PLACES];
+type Links = [u64; LINK_WIDTH * LINKS];
+type Searches = [u8; SEARCH_WIDTH * SUBSCRIPTIONS];
+type Numbers = [u64; NUMBERS_WIDTH * NAMES];
+type Texts = [u8; TEXTS_WIDTH * NAMES];
+
+/// The engine as the host holds it: the arrays that each call is lent. They are numbers alone, so that any bytes are a value of it.
 #[repr(C)]
 #[derive(Clone)]
 pub struct HeldEngine {
-    random_seed: u32,
-    timer: HeldTimer,
-    interfaces: HeldLinks,
-    active_searches: HeldSearches,
-    count: usize,
-    kinds: [HeldType; 8],
-    answers: [HeldType; 8],
-    replies: [HeldReply; 8],
-    names: [HeldName; 8],
-}
-
-#[repr(C)]
-#[derive(Clone)]
-struct HeldTimer {
-    random_seed: u32,
-    next_salvo: u64,
-    phase: u8,
-}
-
-#[repr(C)]
-#[derive(Clone, Copy)]
-struct HeldLink {
-    index: u32,
-    up: u32,
-    count: usize,
-    addresses: [u32; 2],
-}
-
-#[repr(C)]
-#[derive(Clone)]
-struct HeldLinks {
-    count: usize,
-    slots: [HeldLink; 3],
-}
-
-#[repr(C)]
-#[derive(Clone, Copy)]
-struct HeldType {
-    kind: [u8; 80],
-    kind_len: usize,
-}
-
-#[repr(C)]
-#[derive(Clone)]
-struct HeldSearches {
-    count: usize,
-    slots: [HeldType; 4],
-}
-
-#[repr(C)]
-#[derive(Clone, Copy)]
-struct HeldReply {
-    due: u64,
-    sender: u32,
-    receiver: u32,
-    port: u16,
-    needed: u8,
-}
-
-#[repr(C)]
-#[derive(Clone, Copy)]
-struct HeldName {
-    name: [u8; 128],
-    name_len: usize,
-    location: [u8; 120],
-    location_len: usize,
+    head: Head,
+    links: Links,
+    searches: Searches,
+    numbers: Numbers,
+    texts: Texts,
 }
 
 impl HeldEngine {
     /// Zeros, to be lent to `new`.
     pub const BLANK: HeldEngine = HeldEngine {
-        random_seed: 0,
-        timer: HeldTimer { random_seed: 0, next_salvo: 0, phase: 0 },
-        interfaces: HeldLinks { count: 0, slots: [HeldLink { index: 0, up: 0, count: 0, addresses: [0; 2] }; 3] },
-        active_searches: HeldSearches { count: 0, slots: [HeldType::BLANK; 4] },
-        count: 0,
-        kinds: [HeldType::BLANK; 8],
-        answers: [HeldType::BLANK; 8],
-        replies: [HeldReply { due: 0, sender: 0, receiver: 0, port: 0, needed: 0 }; 8],
-        names: [HeldName { name: [0; 128], name_len: 0, location: [0; 120], location_len: 0 }; 8],
+        head: [0; HEAD_PLACES],
+        links: [0; LINK_WIDTH * LINKS],
+        searches: [0; SEARCH_WIDTH * SUBSCRIPTIONS],
+        numbers: [0; NUMBERS_WIDTH * NAMES],
+        texts: [0; TEXTS_WIDTH * NAMES],
     };
-}
-
-impl HeldType {
-    const BLANK: HeldType = HeldType { kind: [0; 80], kind_len: 0 };
 }
 
 #[repr(C)]
@@ -129,34 +68,96 @@ pub struct Written {
     pub len: usize,
 }
 
-type Engine = *mut HeldEngine;
 type Bytes = *const u8;
 type Lent = *mut u8;
 
-// The order of parameters is that of the header: a slice is a pointer and a length.
+// The order of parameters is that of the header: a reference is a pointer, a slice a pointer and a length.
 extern "C" {
-    fn kohlsilk_new(e: Engine, random_seed: u32, time: u64) -> HeldAnswer;
-    fn kohlsilk_new_link(e: Engine, index: u32, flags: u32, outcome: u32, outbox: Lent, room: usize) -> HeldAnswer;
-    fn kohlsilk_deleted_link(e: Engine, index: u32, outcome: u32) -> HeldAnswer;
-    fn kohlsilk_new_address(e: Engine, index: u32, address: Bytes, n: usize, outbox: Lent, room: usize) -> HeldAnswer;
-    fn kohlsilk_deleted_address(e: Engine, index: u32, address: Bytes, n: usize) -> HeldAnswer;
-    fn kohlsilk_subscribe(e: Engine, kind: Bytes, n: usize, outbox: Lent, room: usize) -> HeldAnswer;
-    fn kohlsilk_advertise(
-        e: Engine,
-        name: Bytes,
-        n: usize,
-        kind: Bytes,
-        k: usize,
-        location: Bytes,
-        l: usize,
+    fn kohlsilk_lent_new(h: &mut Head, n: &Numbers, random_seed: u32, time: u64) -> HeldAnswer;
+    fn kohlsilk_lent_new_link(
+        h: &mut Head,
+        l: &mut Links,
+        s: &Searches,
+        n: &Numbers,
+        t: &Texts,
+        index: u32,
+        flags: u32,
+        outcome: u32,
         outbox: Lent,
         room: usize,
     ) -> HeldAnswer;
-    fn kohlsilk_deadvertise(e: Engine, name: Bytes, n: usize, outbox: Lent, room: usize) -> HeldAnswer;
-    fn kohlsilk_refresh(e: Engine, outbox: Lent, room: usize) -> HeldAnswer;
-    fn kohlsilk_on_data(e: Engine, time: u64, sender: u32, port: u16, receiver: u32, datagram: Bytes, n: usize) -> HeldAnswer;
-    fn kohlsilk_handle_timeout(e: Engine, time: u64, outbox: Lent, room: usize) -> HeldAnswer;
-    fn kohlsilk_reset_refresh_timer(e: Engine, time: u64) -> HeldAnswer;
+    fn kohlsilk_lent_deleted_link(h: &mut Head, l: &mut Links, n: &Numbers, index: u32, outcome: u32) -> HeldAnswer;
+    fn kohlsilk_lent_new_address(
+        h: &mut Head,
+        l: &mut Links,
+        s: &Searches,
+        n: &Numbers,
+        t: &Texts,
+        index: u32,
+        address: Bytes,
+        len: usize,
+        outbox: Lent,
+        room: usize,
+    ) -> HeldAnswer;
+    fn kohlsilk_lent_deleted_address(h: &mut Head, l: &mut Links, n: &Numbers, index: u32, address: Bytes, len: usize) -> HeldAnswer;
+    fn kohlsilk_lent_subscribe(
+        h: &mut Head,
+        l: &Links,
+        s: &mut Searches,
+        n: &Numbers,
+        kind: Bytes,
+        len: usize,
+        outbox: Lent,
+        room: usize,
+    ) -> HeldAnswer;
+    fn kohlsilk_lent_advertise(
+        h: &mut Head,
+        l: &Links,
+        n: &mut Numbers,
+        t: &mut Texts,
+        name: Bytes,
+        name_len: usize,
+        kind: Bytes,
+        kind_len: usize,
+        location: Bytes,
+        location_len: usize,
+        outbox: Lent,
+        room: usize,
+    ) -> HeldAnswer;
+    fn kohlsilk_lent_deadvertise(
+        h: &mut Head,
+        l: &Links,
+        n: &mut Numbers,
+        t: &mut Texts,
+        name: Bytes,
+        len: usize,
+        outbox: Lent,
+        room: usize,
+    ) -> HeldAnswer;
+    fn kohlsilk_lent_refresh(h: &Head, l: &Links, s: &Searches, n: &Numbers, t: &Texts, outbox: Lent, room: usize) -> HeldAnswer;
+    fn kohlsilk_lent_on_data(
+        h: &Head,
+        s: &Searches,
+        n: &mut Numbers,
+        t: &mut Texts,
+        time: u64,
+        sender: u32,
+        port: u16,
+        receiver: u32,
+        datagram: Bytes,
+        len: usize,
+    ) -> HeldAnswer;
+    fn kohlsilk_lent_handle_timeout(
+        h: &mut Head,
+        l: &Links,
+        s: &Searches,
+        n: &mut Numbers,
+        t: &Texts,
+        time: u64,
+        outbox: Lent,
+        room: usize,
+    ) -> HeldAnswer;
+    fn kohlsilk_lent_reset_refresh_timer(h: &mut Head, n: &Numbers, time: u64) -> HeldAnswer;
     fn kohlsilk_parse(datagram: Bytes, n: usize) -> Parsed;
     fn kohlsilk_build_search(b: Lent, room: usize, st: Bytes, k: usize) -> Written;
     fn kohlsilk_build_response(b: Lent, room: usize, st: Bytes, k: usize, usn: Bytes, n: usize, location: Bytes, l: usize) -> Written;
@@ -164,65 +165,75 @@ extern "C" {
     fn kohlsilk_build_byebye(b: Lent, room: usize, nt: Bytes, k: usize, usn: Bytes, n: usize) -> Written;
 }
 
+// SAFETY, of each call on an engine: its arrays are lent whole, apart from each other and, where the call changes them, apart from the slices, whose
+// lengths are their own.
+
 pub fn new(e: &mut HeldEngine, random_seed: u32, time: u64) -> HeldAnswer {
-    // SAFETY: `e` is lent whole and writable for the call.
-    unsafe { kohlsilk_new(e, random_seed, time) }
+    // SAFETY: as above.
+    unsafe { kohlsilk_lent_new(&mut e.head, &e.numbers, random_seed, time) }
 }
 
 pub fn new_link(e: &mut HeldEngine, index: u32, flags: u32, outcome: u32, outbox: &mut [u8]) -> HeldAnswer {
-    // SAFETY: `e` and `outbox` are lent writable for the call and apart from each other; the length is the slice's.
-    unsafe { kohlsilk_new_link(e, index, flags, outcome, outbox.as_mut_ptr(), outbox.len()) }
+    let (h, l, room) = (&mut e.head, &mut e.links, outbox.len());
+    // SAFETY: as above.
+    unsafe { kohlsilk_lent_new_link(h, l, &e.searches, &e.numbers, &e.texts, index, flags, outcome, outbox.as_mut_ptr(), room) }
 }
 
 pub fn deleted_link(e: &mut HeldEngine, index: u32, outcome: u32) -> HeldAnswer {
-    // SAFETY: `e` is lent whole and writable for the call.
-    unsafe { kohlsilk_deleted_link(e, index, outcome) }
+    // SAFETY: as above.
+    unsafe { kohlsilk_lent_deleted_link(&mut e.head, &mut e.links, &e.numbers, index, outcome) }
 }
 
 pub fn new_address(e: &mut HeldEngine, index: u32, address: &[u8], outbox: &mut [u8]) -> HeldAnswer {
-    // SAFETY: `e` and `outbox` are lent writable and apart from each other and from `address`; lengths are the slices'.
-    unsafe { kohlsilk_new_address(e, index, address.as_ptr(), address.len(), outbox.as_mut_ptr(), outbox.len()) }
+    let (h, l, a, len, room) = (&mut e.head, &mut e.links, address.as_ptr(), address.len(), outbox.len());
+    // SAFETY: as above.
+    unsafe { kohlsilk_lent_new_address(h, l, &e.searches, &e.numbers, &e.texts, index, a, len, outbox.as_mut_ptr(), room) }
 }
 
 pub fn deleted_address(e: &mut HeldEngine, index: u32, address: &[u8]) -> HeldAnswer {
-    // SAFETY: `e` is lent writable and apart from `address`, whose length is the slice's.
-    unsafe { kohlsilk_deleted_address(e, index, address.as_ptr(), address.len()) }
+    // SAFETY: as above.
+    unsafe { kohlsilk_lent_deleted_address(&mut e.head, &mut e.links, &e.numbers, index, address.as_ptr(), address.len()) }
 }
 
 pub fn subscribe(e: &mut HeldEngine, kind: &[u8], outbox: &mut [u8]) -> HeldAnswer {
-    // SAFETY: `e` and `outbox` are lent writable and apart from each other and from `kind`; lengths are the slices'.
-    unsafe { kohlsilk_subscribe(e, kind.as_ptr(), kind.len(), outbox.as_mut_ptr(), outbox.len()) }
+    let (h, s, k, len, room) = (&mut e.head, &mut e.searches, kind.as_ptr(), kind.len(), outbox.len());
+    // SAFETY: as above.
+    unsafe { kohlsilk_lent_subscribe(h, &e.links, s, &e.numbers, k, len, outbox.as_mut_ptr(), room) }
 }
 
 pub fn advertise(e: &mut HeldEngine, name: &[u8], kind: &[u8], location: &[u8], outbox: &mut [u8]) -> HeldAnswer {
-    let (n, k, l) = (name.len(), kind.len(), location.len());
-    // SAFETY: `e` and `outbox` are lent writable and apart from each other and from the texts; lengths are the slices'.
-    unsafe { kohlsilk_advertise(e, name.as_ptr(), n, kind.as_ptr(), k, location.as_ptr(), l, outbox.as_mut_ptr(), outbox.len()) }
+    let (h, n, t, room) = (&mut e.head, &mut e.numbers, &mut e.texts, outbox.len());
+    let (u, u_len, k, k_len, l, l_len) = (name.as_ptr(), name.len(), kind.as_ptr(), kind.len(), location.as_ptr(), location.len());
+    // SAFETY: as above.
+    unsafe { kohlsilk_lent_advertise(h, &e.links, n, t, u, u_len, k, k_len, l, l_len, outbox.as_mut_ptr(), room) }
 }
 
 pub fn deadvertise(e: &mut HeldEngine, name: &[u8], outbox: &mut [u8]) -> HeldAnswer {
-    // SAFETY: `e` and `outbox` are lent writable and apart from each other and from `name`; lengths are the slices'.
-    unsafe { kohlsilk_deadvertise(e, name.as_ptr(), name.len(), outbox.as_mut_ptr(), outbox.len()) }
+    let (h, n, t, len, room) = (&mut e.head, &mut e.numbers, &mut e.texts, name.len(), outbox.len());
+    // SAFETY: as above.
+    unsafe { kohlsilk_lent_deadvertise(h, &e.links, n, t, name.as_ptr(), len, outbox.as_mut_ptr(), room) }
 }
 
-pub fn refresh(e: &mut HeldEngine, outbox: &mut [u8]) -> HeldAnswer {
-    // SAFETY: `e` and `outbox` are lent writable for the call and apart from each other; the length is the slice's.
-    unsafe { kohlsilk_refresh(e, outbox.as_mut_ptr(), outbox.len()) }
+pub fn refresh(e: &HeldEngine, outbox: &mut [u8]) -> HeldAnswer {
+    // SAFETY: as above.
+    unsafe { kohlsilk_lent_refresh(&e.head, &e.links, &e.searches, &e.numbers, &e.texts, outbox.as_mut_ptr(), outbox.len()) }
 }
 
 pub fn on_data(e: &mut HeldEngine, time: u64, sender: u32, port: u16, receiver: u32, datagram: &[u8]) -> HeldAnswer {
-    // SAFETY: `e` is lent writable and apart from `datagram`, whose length is the slice's.
-    unsafe { kohlsilk_on_data(e, time, sender, port, receiver, datagram.as_ptr(), datagram.len()) }
+    let (n, t, d, len) = (&mut e.numbers, &mut e.texts, datagram.as_ptr(), datagram.len());
+    // SAFETY: as above.
+    unsafe { kohlsilk_lent_on_data(&e.head, &e.searches, n, t, time, sender, port, receiver, d, len) }
 }
 
 pub fn handle_timeout(e: &mut HeldEngine, time: u64, outbox: &mut [u8]) -> HeldAnswer {
-    // SAFETY: `e` and `outbox` are lent writable for the call and apart from each other; the length is the slice's.
-    unsafe { kohlsilk_handle_timeout(e, time, outbox.as_mut_ptr(), outbox.len()) }
+    let (h, n, room) = (&mut e.head, &mut e.numbers, outbox.len());
+    // SAFETY: as above.
+    unsafe { kohlsilk_lent_handle_timeout(h, &e.links, &e.searches, n, &e.texts, time, outbox.as_mut_ptr(), room) }
 }
 
 pub fn reset_refresh_timer(e: &mut HeldEngine, time: u64) -> HeldAnswer {
-    // SAFETY: `e` is lent whole and writable for the call.
-    unsafe { kohlsilk_reset_refresh_timer(e, time) }
+    // SAFETY: as above.
+    unsafe { kohlsilk_lent_reset_refresh_timer(&mut e.head, &e.numbers, time) }
 }
 
 pub fn parse(datagram: &[u8]) -> Parsed {
@@ -257,44 +268,112 @@ mod tests {
     extern crate std;
 
     use super::*;
+    use crate::sizes::*;
     use core::mem::{offset_of, size_of};
     use std::format;
     use std::io::Write;
     use std::process::{Command, Stdio};
     use std::string::String;
     use std::vec;
+    use std::vec::Vec;
 
-    /// The library writes each field where this module has it: numbers that differ show up in their own places.
-    #[test]
-    fn the_library_has_this_layout() {
-        let (mut e, mut outbox) = (HeldEngine::BLANK, vec![0; 62_880]);
-        assert_eq!(new(&mut e, 0x0102_0304, 7).poll, 7);
-        assert_eq!((e.random_seed, e.timer.random_seed, e.timer.next_salvo, e.timer.phase), (0x0102_0304, 0x0102_0304, 7, 0));
-        assert_eq!(handle_timeout(&mut e, 7, &mut outbox).poll, 6047);
-        assert_eq!((e.timer.next_salvo, e.timer.phase), (6047, 1));
-        new_link(&mut e, 5, 0x1041, 0, &mut outbox);
-        new_address(&mut e, 5, &[10, 0, 0, 1], &mut outbox);
-        let link = e.interfaces.slots[0];
-        assert_eq!((e.interfaces.count, link.index, link.up, link.count, link.addresses[0]), (1, 5, 1, 1, 0x0a00_0001));
-        subscribe(&mut e, b"one", &mut outbox);
-        subscribe(&mut e, b"other", &mut outbox);
-        let other = e.active_searches.slots[1];
-        assert_eq!((e.active_searches.count, &other.kind[..5], other.kind_len), (2, &b"other"[..], 5));
-        advertise(&mut e, b"name", b"t:2", b"location", &mut outbox);
-        on_data(&mut e, 100, 0x0a00_0009, 5000, 0x0a00_0001, b"M-SEARCH * HTTP/1.1\nST: t:01\nMX: 1\n");
-        let (held, kind, answer, reply) = (e.names[0], e.kinds[0], e.answers[0], e.replies[0]);
-        assert_eq!((e.count, &held.name[..4], held.name_len), (1, &b"name"[..], 4));
-        assert_eq!((&kind.kind[..3], kind.kind_len, &held.location[..8], held.location_len), (&b"t:2"[..], 3, &b"location"[..], 8));
-        assert_eq!((&answer.kind[..4], answer.kind_len), (&b"t:01"[..], 4));
-        let due = 100 + 10 + 0x0102_0304 % 1000;
-        assert_eq!((reply.due, reply.sender, reply.receiver, reply.port), (due, 0x0a00_0009, 0x0a00_0001, 5000));
-        assert_ne!(reply.needed, 0);
+    const UP: u32 = 0x1041;
+
+    fn row<T>(table: &[T], width: usize, k: usize) -> &[T] {
+        &table[width * k..width * (k + 1)]
     }
 
-    /// Any bytes are an engine: every call comes back, reports at most 120 records and writes nothing behind the outbox.
+    /// The rows of name k.
+    fn name_row(e: &HeldEngine, k: usize) -> (&[u64], &[u8]) {
+        (row(&e.numbers, NUMBERS_WIDTH, k), row(&e.texts, TEXTS_WIDTH, k))
+    }
+
+    /// Address number k of a link.
+    fn address(link: u32, k: usize) -> [u8; 4] {
+        [10, 0, link as u8, 1 + k as u8]
+    }
+
+    /// A text of `size` bytes that ends in number k.
+    fn long(size: usize, k: usize) -> Vec<u8> {
+        format!("{:0size$}", k).into_bytes()
+    }
+
+    /// The library writes each number and each text where this crate has its row: numbers that differ show up in their own places.
+    #[test]
+    fn the_library_has_this_layout() {
+        let (mut e, mut outbox) = (HeldEngine::BLANK, vec![0; OUTBOX_SIZE]);
+        e.head = [u64::MAX; HEAD_PLACES];
+        assert_eq!(new(&mut e, 0x0102_0304, 7).poll, 7);
+        assert_eq!(e.head, [0x0102_0304, 7, 0, 0, 0, 0]);
+        assert_eq!(handle_timeout(&mut e, 7, &mut outbox).poll, 6047);
+        assert_eq!(e.head[1..3], [6047, 1]);
+        new_link(&mut e, 5, UP, 0, &mut outbox);
+        new_address(&mut e, 5, &[10, 0, 0, 1], &mut outbox);
+        assert_eq!(e.links[..4], [5, 1, 1, 0x0a00_0001]);
+        subscribe(&mut e, b"one", &mut outbox);
+        subscribe(&mut e, b"other", &mut outbox);
+        assert_eq!(row(&e.searches, SEARCH_WIDTH, 1)[..6], *b"\x05other");
+        advertise(&mut e, b"name", b"t:2", b"location", &mut outbox);
+        on_data(&mut e, 100, 0x0a00_0009, 5000, 0x0a00_0001, b"M-SEARCH * HTTP/1.1\nST: t:01\nMX: 1\n");
+        assert_eq!(e.head[3..], [1, 1, 2]);
+        let (numbers, texts) = name_row(&e, 0);
+        let due = 100 + 10 + 0x0102_0304 % 1000;
+        assert_eq!(numbers, [4, 3, 8, 4, 2, due, 0x0a00_0009, 5000, 0x0a00_0001]);
+        let (kind, location) = (&texts[NAME_SIZE..], &texts[NAME_SIZE + TYPE_SIZE..]);
+        let answer = &location[LOCATION_SIZE..];
+        assert_eq!((&texts[..4], &kind[..3], &location[..8], &answer[..4]), (&b"name"[..], &b"t:2"[..], &b"location"[..], &b"t:01"[..]));
+    }
+
+    /// The library holds as many of each as this crate says, of texts as long, and no more; each stands in its row, up to the arrays' ends.
+    #[test]
+    fn the_library_has_these_sizes() {
+        let (mut e, mut outbox) = (HeldEngine::BLANK, vec![0; OUTBOX_SIZE]);
+        new(&mut e, 0, 0);
+        for index in 1..=LINKS as u32 {
+            assert_eq!(new_link(&mut e, index, UP, 0, &mut outbox).refusal, 0);
+            for a in 0..=ADDRESSES {
+                assert_eq!(new_address(&mut e, index, &address(index, a), &mut outbox).refusal, if a < ADDRESSES { 0 } else { 13 });
+            }
+        }
+        assert_eq!(new_link(&mut e, 1 + LINKS as u32, UP, 0, &mut outbox).refusal, 13);
+        for k in 0..LINKS {
+            let (index, row) = (1 + k as u32, row(&e.links, LINK_WIDTH, k));
+            assert_eq!(row[..3], [index.into(), 1, ADDRESSES as u64]);
+            let held: Vec<u64> = (0..ADDRESSES).map(|a| u32::from_be_bytes(address(index, a)).into()).collect();
+            assert_eq!(row[3..], held);
+        }
+        assert_eq!(subscribe(&mut e, &long(TYPE_SIZE + 1, 0), &mut outbox).refusal, 3);
+        for k in 0..=SUBSCRIPTIONS {
+            assert_eq!(subscribe(&mut e, &long(TYPE_SIZE, k), &mut outbox).refusal, if k < SUBSCRIPTIONS { 0 } else { 5 });
+        }
+        for k in 0..SUBSCRIPTIONS {
+            let row = row(&e.searches, SEARCH_WIDTH, k);
+            assert_eq!((usize::from(row[0]), &row[1..]), (TYPE_SIZE, &long(TYPE_SIZE, k)[..]));
+        }
+        for (name, kind, location) in [(1, 0, 0), (0, 1, 0), (0, 0, 1)] {
+            let texts = (&long(NAME_SIZE + name, 0), &long(TYPE_SIZE + kind, 0), &long(LOCATION_SIZE + location, 0));
+            assert_eq!(advertise(&mut e, texts.0, texts.1, texts.2, &mut outbox).refusal, 3);
+        }
+        for k in 0..=NAMES {
+            let texts = (&long(NAME_SIZE, k), &long(TYPE_SIZE, k), &long(LOCATION_SIZE, k));
+            assert_eq!(advertise(&mut e, texts.0, texts.1, texts.2, &mut outbox).refusal, if k < NAMES { 0 } else { 5 });
+        }
+        on_data(&mut e, 0, 1, 2, 3, b"M-SEARCH * HTTP/1.1\nST: ssdp:all\nMX: 1\n");
+        on_data(&mut e, 0, 4, 2, 3, b"M-SEARCH * HTTP/1.1\nST: ssdp:all\nMX: 1\n");
+        for k in 0..NAMES {
+            let (numbers, texts) = name_row(&e, k);
+            assert_eq!(numbers[..5], [NAME_SIZE as u64, TYPE_SIZE as u64, LOCATION_SIZE as u64, TYPE_SIZE as u64, 1]);
+            assert_eq!(texts, [long(NAME_SIZE, k), long(TYPE_SIZE, k), long(LOCATION_SIZE, k), long(TYPE_SIZE, k)].concat());
+        }
+        assert_eq!(e.head[3..], [NAMES as u64, LINKS as u64, SUBSCRIPTIONS as u64]);
+        assert_eq!(handle_timeout(&mut e, 1000, &mut outbox[1..]).refusal, 2);
+        assert_eq!(handle_timeout(&mut e, 1000, &mut outbox).records, RECORDS);
+    }
+
+    /// Any bytes are an engine: every call comes back, reports no more records than an outbox has and writes nothing behind the outbox.
     #[test]
     fn any_bytes_are_an_engine() {
-        let (mut e, mut bytes, mut dice) = (HeldEngine::BLANK, vec![0; 62_880 + 64], 1u64);
+        let (mut e, mut bytes, mut dice) = (HeldEngine::BLANK, vec![0; OUTBOX_SIZE + 64], 1u64);
         let mut roll = || {
             dice = dice.wrapping_mul(6_364_136_223_846_793_005).wrapping_add(1_442_695_040_888_963_407);
             (dice >> 33) as u8
@@ -305,60 +384,66 @@ mod tests {
             held.iter_mut().for_each(|byte| *byte = roll());
             // Counts and lengths that are in their bounds, too.
             if round % 2 == 0 {
-                (e.interfaces.count, e.active_searches.count, e.count) = (3, 4, 8);
-                e.interfaces.slots.iter_mut().for_each(|link| link.count = 2);
-                e.names.iter_mut().for_each(|held| held.name_len = 128);
-                e.replies.iter_mut().for_each(|reply| reply.needed = roll() % 3);
+                e.head[3..].copy_from_slice(&[NAMES as u64, LINKS as u64, SUBSCRIPTIONS as u64]);
+                e.links.chunks_mut(LINK_WIDTH).for_each(|link| link[2] = ADDRESSES as u64);
+                for numbers in e.numbers.chunks_mut(NUMBERS_WIDTH) {
+                    numbers[..5].copy_from_slice(&[NAME_SIZE as u64, 3, 7, 5, (roll() % 3).into()]);
+                }
             }
-            let (outbox, behind) = bytes.split_at_mut(62_880);
-            let index = e.interfaces.slots[0].index;
-            let name = e.names[0].name;
+            let (outbox, behind) = bytes.split_at_mut(OUTBOX_SIZE);
+            let index = e.links[0] as u32;
+            let (mut name, mut address) = ([0; NAME_SIZE], [0; 4]);
+            name.copy_from_slice(&e.texts[..NAME_SIZE]);
+            address.copy_from_slice(&e.texts[..4]);
             let answers = [
-                new_link(&mut e, index, 0x1041, 0, outbox),
-                new_address(&mut e, index, &name[..4], outbox),
+                new_link(&mut e, index, UP, 0, outbox),
+                new_address(&mut e, index, &address, outbox),
                 subscribe(&mut e, b"t", outbox),
                 advertise(&mut e, b"u", b"t", b"http://h/d", outbox),
                 on_data(&mut e, 0, 1, 2, 3, b"M-SEARCH * HTTP/1.1\nST: ssdp:all\nMX: 1\n"),
                 on_data(&mut e, 0, 1, 2, 3, b"NOTIFY * HTTP/1.1\nNT: t\nNTS: ssdp:byebye\nUSN: u\n"),
-                refresh(&mut e, outbox),
+                refresh(&e, outbox),
                 handle_timeout(&mut e, u64::MAX >> 1, outbox),
                 deadvertise(&mut e, &name, outbox),
-                deleted_address(&mut e, index, &name[..4]),
+                deleted_address(&mut e, index, &address),
                 deleted_link(&mut e, index, 0),
                 reset_refresh_timer(&mut e, 0),
             ];
-            assert!(answers.iter().all(|answer| answer.refusal <= 14 && answer.records <= 120));
+            assert!(answers.iter().all(|answer| answer.refusal <= 14 && answer.records <= RECORDS));
             assert!(behind.iter().all(|byte| *byte == 0));
         }
     }
 
-    /// The C compiler has the header's structs of the same sizes and with the same places.
+    /// The C compiler has the header's sizes, and its structs with the same places.
     #[test]
     fn the_header_has_this_layout() {
         let mut source = String::from("#include <kohlsilk.h>\n");
         let mut claim = |what: &str, value: usize| source += &format!("_Static_assert({what} == {value}, \"{what}\");\n");
+        claim("KOHLSILK_NAMES", NAMES);
+        claim("KOHLSILK_SUBSCRIPTIONS", SUBSCRIPTIONS);
+        claim("KOHLSILK_LINKS", LINKS);
+        claim("KOHLSILK_ADDRESSES", ADDRESSES);
+        claim("KOHLSILK_NAME_SIZE", NAME_SIZE);
+        claim("KOHLSILK_TYPE_SIZE", TYPE_SIZE);
+        claim("KOHLSILK_LOCATION_SIZE", LOCATION_SIZE);
+        claim("KOHLSILK_RECORD", RECORD_SIZE);
+        claim("KOHLSILK_RECORDS", RECORDS);
+        claim("KOHLSILK_OUTBOX", OUTBOX_SIZE);
         claim("sizeof(struct kohlsilk_engine)", size_of::<HeldEngine>());
-        claim("sizeof(struct kohlsilk_name)", size_of::<HeldName>());
-        claim("sizeof(struct kohlsilk_reply)", size_of::<HeldReply>());
-        claim("sizeof(struct kohlsilk_type)", size_of::<HeldType>());
-        claim("sizeof(struct kohlsilk_link)", size_of::<HeldLink>());
-        claim("sizeof(struct kohlsilk_timer)", size_of::<HeldTimer>());
         claim("sizeof(struct kohlsilk_answer)", size_of::<HeldAnswer>());
         claim("sizeof(struct kohlsilk_parsed)", size_of::<Parsed>());
         claim("sizeof(struct kohlsilk_written)", size_of::<Written>());
-        claim("offsetof(struct kohlsilk_engine, interfaces)", offset_of!(HeldEngine, interfaces));
-        claim("offsetof(struct kohlsilk_engine, active_searches)", offset_of!(HeldEngine, active_searches));
-        claim("offsetof(struct kohlsilk_engine, count)", offset_of!(HeldEngine, count));
-        claim("offsetof(struct kohlsilk_engine, kinds)", offset_of!(HeldEngine, kinds));
-        claim("offsetof(struct kohlsilk_engine, answers)", offset_of!(HeldEngine, answers));
-        claim("offsetof(struct kohlsilk_engine, replies)", offset_of!(HeldEngine, replies));
-        claim("offsetof(struct kohlsilk_engine, names)", offset_of!(HeldEngine, names));
-        claim("offsetof(struct kohlsilk_name, location)", offset_of!(HeldName, location));
-        claim("offsetof(struct kohlsilk_reply, needed)", offset_of!(HeldReply, needed));
+        claim("sizeof(((struct kohlsilk_engine *)0)->head)", size_of::<Head>());
+        claim("sizeof(((struct kohlsilk_engine *)0)->links)", size_of::<Links>());
+        claim("sizeof(((struct kohlsilk_engine *)0)->searches)", size_of::<Searches>());
+        claim("sizeof(((struct kohlsilk_engine *)0)->numbers)", size_of::<Numbers>());
+        claim("sizeof(((struct kohlsilk_engine *)0)->texts)", size_of::<Texts>());
+        claim("offsetof(struct kohlsilk_engine, links)", offset_of!(HeldEngine, links));
+        claim("offsetof(struct kohlsilk_engine, searches)", offset_of!(HeldEngine, searches));
+        claim("offsetof(struct kohlsilk_engine, numbers)", offset_of!(HeldEngine, numbers));
+        claim("offsetof(struct kohlsilk_engine, texts)", offset_of!(HeldEngine, texts));
         claim("offsetof(struct kohlsilk_answer, poll)", offset_of!(HeldAnswer, poll));
         claim("offsetof(struct kohlsilk_answer, leave)", offset_of!(HeldAnswer, leave));
-        claim("KOHLSILK_OUTBOX", crate::OUTBOX_SIZE);
-        claim("KOHLSILK_RECORD", crate::RECORD_SIZE);
         claim("KOHLSILK_JOIN_FAILED", crate::Refusal::JOIN_FAILED.number() as usize);
         let include = concat!(env!("CARGO_MANIFEST_DIR"), "/../../include");
         let mut cc = Command::new("cc");

@@ -7,7 +7,7 @@ use crate::refusal::Refusal;
 /// matched = joined + alone + group + dropped + waiting at all times.
 #[derive(Clone, Copy, Debug, PartialEq, Eq)]
 pub struct Answer {
-    /// How many records the call wrote to the outbox, at most 120. The host sends them: [`Answer::records_in`].
+    /// How many records the call wrote to the outbox, at most [`RECORDS`](crate::RECORDS). The host sends them: [`Answer::records_in`].
     pub records: usize,
     /// Names that a search matched.
     pub matched: usize,

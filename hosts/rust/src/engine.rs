@@ -5,8 +5,8 @@ use crate::refusal::Refusal;
 use core::fmt;
 use core::net::{Ipv4Addr, SocketAddrV4};
 
-/// The engine: up to 8 advertisements, 4 subscriptions, 3 links with 2 addresses each, and the replies that wait. It takes
-/// about 4 KB, holds no pointer and allocates nothing.
+/// The engine: up to [`NAMES`](crate::NAMES) advertisements, [`SUBSCRIPTIONS`](crate::SUBSCRIPTIONS), [`LINKS`](crate::LINKS) with
+/// [`ADDRESSES`](crate::ADDRESSES) each, and the replies that wait. It takes about 4 KB, holds no pointer and allocates nothing.
 ///
 /// Times are milliseconds from any start. An outbox is any bytes that the host lends, at least [`OUTBOX_SIZE`](crate::OUTBOX_SIZE) of them:
 /// a shorter one is refused by number 2. A refused call changes nothing.
@@ -87,7 +87,7 @@ impl Engine {
 
     /// Announces all, and searches for all, at once.
     pub fn refresh(&mut self, outbox: &mut [u8]) -> Result<Answer, Refusal> {
-        let answer = abi::refresh(&mut self.held, outbox);
+        let answer = abi::refresh(&self.held, outbox);
         self.noted(answer)
     }
 

@@ -1,11 +1,6 @@
 //! Records: the datagrams that a call has the host send.
+use crate::sizes::RECORD_SIZE;
 use core::net::{Ipv4Addr, SocketAddrV4};
-
-/// The length of an outbox that no call refuses.
-pub const OUTBOX_SIZE: usize = 62_880;
-
-/// What a record takes of the outbox.
-pub const RECORD_SIZE: usize = 524;
 
 /// Where the message begins in a record.
 const HEAD: usize = 12;

@@ -32,18 +32,18 @@ macro_rules! refusals {
 
 refusals! {
     1 TIME_LATE "the time is above 2^63 - 1 milliseconds";
-    2 OUTBOX_SHORT "the outbox is under 62,880 bytes";
-    3 TEXT_OVER_SIZE "a text is over its size (a type 80 bytes, a name 128, a location 120, or 135 in a message built by itself)";
+    2 OUTBOX_SHORT "the outbox is shorter than what a call may need";
+    3 TEXT_OVER_SIZE "a name, a type or a location is over its size";
     4 TEXT_NOT_GOOD "a text is not UTF-8, holds a line end, or starts or ends in white space";
-    5 TABLE_FULL "eight names or four subscriptions are held already";
+    5 TABLE_FULL "as many names or subscriptions are held as there is room for";
     6 BUFFER_SHORT "the buffer is shorter than the message";
     7 DATAGRAM_EMPTY "the datagram is empty";
     8 DATAGRAM_INVALID "the datagram is no message of this protocol";
     9 WAIT_ZERO "the search gives no time to answer (MX 0)";
-    10 TARGET_OVER_SIZE "the search target is over 80 bytes";
+    10 TARGET_OVER_SIZE "the search target is over the size of a type";
     11 INDEX_ZERO "no link has the index 0";
     12 ADDRESS_LENGTH "the address has neither 4 nor 16 bytes";
-    13 LINKS_FULL "three links, or two addresses of that link, are held already";
+    13 LINKS_FULL "as many links, or addresses of that link, are held as there is room for";
     14 JOIN_FAILED "the group could not be joined on that link";
 }
 

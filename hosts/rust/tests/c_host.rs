@@ -1,16 +1,23 @@
-//! hosts/c/example.c, compiled against the header and linked with the library, prints document 01's answers.
+//! Programs in C, linked with the library: document 01's example prints its answers, and every call takes less than 4 KB of stack.
 use std::process::Command;
+
+/// What a program of hosts/c prints.
+fn printed(name: &str) -> String {
+    let hosts = concat!(env!("CARGO_MANIFEST_DIR"), "/..");
+    let program = format!("{}/c-{name}", env!("CARGO_TARGET_TMPDIR"));
+    let library = concat!(env!("KOHLSILK_FOLDER"), "/libhost.a");
+    let source = format!("{hosts}/c/{name}.c");
+    let include = format!("{hosts}/../include");
+    let options = ["-std=c11", "-O2", "-Wall", "-Wextra", "-Wpedantic", "-Werror", "-Wl,-z,now", "-I"];
+    assert!(Command::new("cc").args(options).args([&include, &source, library, "-o", &program]).status().unwrap().success());
+    let output = Command::new(program).output().unwrap();
+    assert!(output.status.success(), "{}", String::from_utf8_lossy(&output.stderr));
+    String::from_utf8(output.stdout).unwrap()
+}
 
 #[test]
 fn the_example_in_c() {
-    let hosts = concat!(env!("CARGO_MANIFEST_DIR"), "/..");
-    let program = format!("{}/c-example", env!("CARGO_TARGET_TMPDIR"));
-    let library = concat!(env!("KOHLSILK_FOLDER"), "/libhost.a");
-    let source = format!("{hosts}/c/example.c");
-    let include = format!("{hosts}/../include");
-    let options = ["-std=c11", "-Wall", "-Wextra", "-Wpedantic", "-Werror", "-I"];
-    assert!(Command::new("cc").args(options).args([&include, &source, library, "-o", &program]).status().unwrap().success());
-    let printed = String::from_utf8(Command::new(program).output().unwrap().stdout).unwrap();
+    let printed = printed("example");
     let answers: Vec<&str> = printed.lines().take(7).collect();
     let expected = [
         "0 0 0 0 0 0 0 0 0",
@@ -23,4 +30,16 @@ fn the_example_in_c() {
     ];
     assert_eq!(answers, expected.map(|line| line.replace(' ', "\t")));
     assert_eq!(printed.matches("10.0.0.1 to 239.255.255.250 port 1900, 185 bytes:\nNOTIFY * HTTP/1.1\r\n").count(), 2);
+}
+
+/// With full tables, on a stack of its own.
+#[test]
+fn every_call_takes_little_stack() {
+    let printed = printed("stack");
+    let calls: Vec<(&str, usize)> =
+        printed.lines().filter_map(|line| line.split_once('\t')).map(|(call, bytes)| (call, bytes.parse().unwrap())).collect();
+    assert_eq!(calls.len(), 14);
+    for (call, bytes) in calls {
+        assert!((1..4096).contains(&bytes), "{call} takes {bytes} bytes of stack");
+    }
 }

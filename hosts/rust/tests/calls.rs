@@ -1,5 +1,5 @@
 //! The calls as a host makes them: each answers what document 01 says, and each refusal has its number.
-use kohlsilk::{flags, Answer, Engine, Message, Refusal, GROUP, OUTBOX_SIZE};
+use kohlsilk::{flags, Answer, Engine, Message, Refusal, GROUP, LOCATION_SIZE, NAMES, NAME_SIZE, OUTBOX_SIZE, SUBSCRIPTIONS, TYPE_SIZE};
 use std::net::{Ipv4Addr, SocketAddrV4};
 
 const LINK: u32 = flags::UP | flags::RUNNING | flags::MULTICAST;
@@ -101,15 +101,18 @@ fn the_host_is_refused() {
     let (mut engine, mut outbox) = serving();
     assert_eq!(number(engine.refresh(&mut outbox[1..])), 2);
     assert_eq!(number(engine.refresh(&mut [])), 2);
-    assert_eq!(number(engine.advertise("n".repeat(128), "t".repeat(80), "l".repeat(120), &mut outbox)), 0);
-    assert_eq!(number(engine.advertise("n".repeat(129), "t", "l", &mut outbox)), 3);
-    assert_eq!(number(engine.subscribe("t".repeat(81), &mut outbox)), 3);
+    assert_eq!(number(engine.advertise("n".repeat(NAME_SIZE), "t".repeat(TYPE_SIZE), "l".repeat(LOCATION_SIZE), &mut outbox)), 0);
+    assert_eq!(number(engine.advertise("n".repeat(NAME_SIZE + 1), "t", "l", &mut outbox)), 3);
+    assert_eq!(number(engine.subscribe("t".repeat(TYPE_SIZE + 1), &mut outbox)), 3);
     assert_eq!(number(engine.subscribe(b"\xff", &mut outbox)), 4);
     assert_eq!(number(engine.advertise("u", "t", "l ", &mut outbox)), 4);
-    for k in 0..8 {
-        assert_eq!(number(engine.advertise(format!("{k}"), "t", "l", &mut outbox)), if k < 7 { 0 } else { 5 });
+    for k in 1..=NAMES {
+        assert_eq!(number(engine.advertise(format!("{k}"), "t", "l", &mut outbox)), if k < NAMES { 0 } else { 5 });
     }
-    assert_eq!(number(engine.advertise("6", "other", "l", &mut outbox)), 0);
+    assert_eq!(number(engine.advertise("1", "other", "l", &mut outbox)), 0);
+    for k in 0..=SUBSCRIPTIONS {
+        assert_eq!(number(engine.subscribe("t", &mut outbox)), if k < SUBSCRIPTIONS { 0 } else { 5 });
+    }
 }
 
 #[test]
@@ -121,7 +124,7 @@ fn peers_are_refused() {
     assert_eq!(data(&search("t", "256")), 8);
     assert_eq!(data(&search("t", "255")), 0);
     assert_eq!(data(&search("t", "0")), 9);
-    assert_eq!(data(&search(&"t".repeat(81), "1")), 10);
+    assert_eq!(data(&search(&"t".repeat(TYPE_SIZE + 1), "1")), 10);
     assert_eq!(number(engine.on_data(1 << 63, SEARCHER, HERE, b"")), 1);
 }
 
@@ -179,12 +182,12 @@ fn messages_are_built_and_read() {
     assert_eq!(kohlsilk::parse(kohlsilk::build_byebye(&mut buffer, "t", "").unwrap()), Ok(byebye));
     assert_eq!(kohlsilk::build_notify(&mut buffer, "t", "u", "l".repeat(136)), Err(Refusal::TEXT_OVER_SIZE));
     assert_eq!(kohlsilk::build_search(&mut buffer[..86], "t"), Err(Refusal::BUFFER_SHORT));
-    let longest = kohlsilk::build_notify(&mut buffer, "t".repeat(80), "u".repeat(128), "l".repeat(135));
+    let longest = kohlsilk::build_notify(&mut buffer, "t".repeat(TYPE_SIZE), "u".repeat(NAME_SIZE), "l".repeat(135));
     assert_eq!(longest.unwrap().len(), kohlsilk::MESSAGE_MAX);
 }
 
 #[test]
 fn refusals_in_words() {
-    assert_eq!(Refusal::OUTBOX_SHORT.to_string(), "refused 2: the outbox is under 62,880 bytes");
+    assert_eq!(Refusal::OUTBOX_SHORT.to_string(), "refused 2: the outbox is shorter than what a call may need");
     assert_eq!(Refusal::LINKS_FULL.number(), 13);
 }

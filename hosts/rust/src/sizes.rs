@@ -1,0 +1,46 @@
+//! How much an engine holds, and the sizes of the arrays that it is made of, as the library has them. The tests compare them with the library and with the header.
+
+/// The names that are held.
+pub const NAMES: usize = 8;
+
+/// The subscriptions that are held.
+pub const SUBSCRIPTIONS: usize = 4;
+
+/// The links that are held.
+pub const LINKS: usize = 3;
+
+/// The addresses of a link that are held.
+pub const ADDRESSES: usize = 2;
+
+/// The longest name, in bytes.
+pub const NAME_SIZE: usize = 128;
+
+/// The longest type.
+pub const TYPE_SIZE: usize = 80;
+
+/// The longest location.
+pub const LOCATION_SIZE: usize = 120;
+
+/// What a record takes of the outbox.
+pub const RECORD_SIZE: usize = 524;
+
+/// The most records of a call: a refresh and a reply to the group for each name, from each address.
+pub const RECORDS: usize = (2 * NAMES + SUBSCRIPTIONS) * LINKS * ADDRESSES;
+
+/// The length of an outbox that no call refuses.
+pub const OUTBOX_SIZE: usize = RECORD_SIZE * RECORDS;
+
+/// The places of the head: the timer, and how many of each are held.
+pub(crate) const HEAD_PLACES: usize = 6;
+
+/// A row of a link: index, up, how many addresses, and the addresses.
+pub(crate) const LINK_WIDTH: usize = 3 + ADDRESSES;
+
+/// A row of a subscription: the length of its type, and the type.
+pub(crate) const SEARCH_WIDTH: usize = 1 + TYPE_SIZE;
+
+/// A row of a name: the lengths of its four texts, and five numbers of its waiting reply.
+pub(crate) const NUMBERS_WIDTH: usize = 9;
+
+/// Its texts: name, type, location, and the type of the waiting answer.
+pub(crate) const TEXTS_WIDTH: usize = NAME_SIZE + TYPE_SIZE + LOCATION_SIZE + TYPE_SIZE;

@@ -4,17 +4,24 @@ use console::hexadecimal;
 use console::part;
 use console::part::part_of;
 use engine::advertisement::Endpoint;
-use engine::engine::Answered;
-use engine::engine::Engine;
+use engine::calls;
+use engine::engine::Answer;
+use engine::sizes::Head;
+use engine::sizes::Links;
+use engine::sizes::Numbers;
+use engine::sizes::Searches;
+use engine::sizes::Texts;
 use text::white::Place;
 ghost use mathlib.Core.Path.{_≡_};
-ghost use mathlib.Core.List.{[]};
+ghost use mathlib.Core.List.{List, []};
+ghost use Prim.Native.Nat.{ℕ};
 ghost use lib.ListN.{length, take};
 ghost use Rattle.console.specs.Datagram.{datagram};
 ghost use Rattle.console.specs.Hexadecimal.{unhexed};
 ghost use Rattle.engine.specs.Layout.{bigEndian4};
 ghost use Rattle.engine.specs.Calls.{NewAddress, DeletedAddress, Advertise, Datagram};
-ghost use Rattle.engine.specs.Engine.{Answers};
+ghost use Rattle.engine.specs.Arrays.{tables};
+ghost use Rattle.engine.specs.Promises.{Answering};
 ghost use Rattle.dialogue.specs.Asking.{datagramMax, addressMax, partOf};
 
 // Room for the longest datagram of a line: each of its bytes may stand for two.
@@ -44,81 +51,160 @@ fn octets_of(address: u32) -> [u8; 4]
 }
 
 // `addr`.
-pub(crate) fn new_address(e: Engine, index: u32, address: u32, outbox: &mut [u8]) -> Answered
-    ensures { λ r. ⌜ Answers e (NewAddress index (bigEndian4 address) (length (now (outbox .entry)))) (now (outbox .entry)) (now (outbox .exit)) r ⌝ }
+pub(crate) fn new_address(
+    head: &mut Head,
+    links: &mut Links,
+    searches: &Searches,
+    numbers: &Numbers,
+    texts: &Texts,
+    index: u32,
+    address: u32,
+    outbox: &mut [u8],
+) -> Answer
+    ensures { λ r. ⌜ Answering (tables (now (head .entry)) (now (links .entry)) (now (searches .entry)) (now (numbers .entry)) (now (texts .entry))) (NewAddress index (bigEndian4 address) (length (now (outbox .entry)))) (now (outbox .entry)) (now (outbox .exit)) (tables (now (head .exit)) (now (links .exit)) (now (searches .entry)) (now (numbers .entry)) (now (texts .entry))) r ⌝ }
 {
     let octets = octets_of(address);
-    e.new_address(index, &octets, outbox)
+    calls::new_address(
+        head,
+        links,
+        searches,
+        numbers,
+        texts,
+        index,
+        &octets,
+        outbox,
+    )
 }
 
 // `deladdr`.
-pub(crate) fn deleted_address(e: Engine, index: u32, address: u32) -> Answered
-    ensures { λ r. ⌜ Answers e (DeletedAddress index (bigEndian4 address)) [] [] r ⌝ }
+pub(crate) fn deleted_address(
+    head: &mut Head,
+    links: &mut Links,
+    numbers: &Numbers,
+    index: u32,
+    address: u32,
+) -> Answer
+    ensures { λ r. ⌜ ((searches texts : List ℕ) → Answering (tables (now (head .entry)) (now (links .entry)) searches (now (numbers .entry)) texts) (DeletedAddress index (bigEndian4 address)) [] [] (tables (now (head .exit)) (now (links .exit)) searches (now (numbers .entry)) texts) r) ⌝ }
 {
     let octets = octets_of(address);
-    e.deleted_address(index, &octets)
+    calls::deleted_address(head, links, numbers, index, &octets)
 }
 
 // `hexaddr`.
-pub(crate) fn new_address_bytes(e: Engine, index: u32, digits: &[u8], outbox: &mut [u8]) -> Answered
-    ensures { λ r. ⌜ Answers e (NewAddress index (take addressMax (unhexed (now (digits .entry)))) (length (now (outbox .entry)))) (now (outbox .entry)) (now (outbox .exit)) r ⌝ }
+pub(crate) fn new_address_bytes(
+    head: &mut Head,
+    links: &mut Links,
+    searches: &Searches,
+    numbers: &Numbers,
+    texts: &Texts,
+    index: u32,
+    digits: &[u8],
+    outbox: &mut [u8],
+) -> Answer
+    ensures { λ r. ⌜ Answering (tables (now (head .entry)) (now (links .entry)) (now (searches .entry)) (now (numbers .entry)) (now (texts .entry))) (NewAddress index (take addressMax (unhexed (now (digits .entry)))) (length (now (outbox .entry)))) (now (outbox .entry)) (now (outbox .exit)) (tables (now (head .exit)) (now (links .exit)) (now (searches .entry)) (now (numbers .entry)) (now (texts .entry))) r ⌝ }
 {
     let mut bytes = no_address();
     let n = hexadecimal::write_unhexed(&mut bytes, digits);
-    e.new_address(index, part::front(&bytes, n), outbox)
+    calls::new_address(
+        head,
+        links,
+        searches,
+        numbers,
+        texts,
+        index,
+        part::front(&bytes, n),
+        outbox,
+    )
 }
 
 // `hexdeladdr`.
-pub(crate) fn deleted_address_bytes(e: Engine, index: u32, digits: &[u8]) -> Answered
-    ensures { λ r. ⌜ Answers e (DeletedAddress index (take addressMax (unhexed (now (digits .entry))))) [] [] r ⌝ }
+pub(crate) fn deleted_address_bytes(
+    head: &mut Head,
+    links: &mut Links,
+    numbers: &Numbers,
+    index: u32,
+    digits: &[u8],
+) -> Answer
+    ensures { λ r. ⌜ ((searches texts : List ℕ) → Answering (tables (now (head .entry)) (now (links .entry)) searches (now (numbers .entry)) texts) (DeletedAddress index (take addressMax (unhexed (now (digits .entry))))) [] [] (tables (now (head .exit)) (now (links .exit)) searches (now (numbers .entry)) texts) r) ⌝ }
 {
     let mut bytes = no_address();
     let n = hexadecimal::write_unhexed(&mut bytes, digits);
-    e.deleted_address(index, part::front(&bytes, n))
+    calls::deleted_address(head, links, numbers, index, part::front(&bytes, n))
 }
 
 // `data`.
 pub(crate) fn on_text(
-    e: Engine,
+    head: &Head,
+    searches: &Searches,
+    numbers: &mut Numbers,
+    texts: &mut Texts,
     time: u64,
     sender: Endpoint,
     receiver: u32,
     text: &[u8],
-) -> Answered
-    ensures { λ r. ⌜ Answers e (Datagram time sender receiver (take datagramMax (datagram (now (text .entry))))) [] [] r ⌝ }
+) -> Answer
+    ensures { λ r. ⌜ ((links : List ℕ) → Answering (tables (now (head .entry)) links (now (searches .entry)) (now (numbers .entry)) (now (texts .entry))) (Datagram time sender receiver (take datagramMax (datagram (now (text .entry))))) [] [] (tables (now (head .entry)) links (now (searches .entry)) (now (numbers .exit)) (now (texts .exit))) r) ⌝ }
 {
     let mut bytes = no_datagram();
     let n = datagram::write_datagram(&mut bytes, text);
-    e.on_data(time, sender, receiver, part::front(&bytes, n))
+    calls::on_data(
+        head,
+        searches,
+        numbers,
+        texts,
+        time,
+        sender,
+        receiver,
+        part::front(&bytes, n),
+    )
 }
 
 // `hexdata`.
 pub(crate) fn on_bytes(
-    e: Engine,
+    head: &Head,
+    searches: &Searches,
+    numbers: &mut Numbers,
+    texts: &mut Texts,
     time: u64,
     sender: Endpoint,
     receiver: u32,
     digits: &[u8],
-) -> Answered
-    ensures { λ r. ⌜ Answers e (Datagram time sender receiver (take datagramMax (unhexed (now (digits .entry))))) [] [] r ⌝ }
+) -> Answer
+    ensures { λ r. ⌜ ((links : List ℕ) → Answering (tables (now (head .entry)) links (now (searches .entry)) (now (numbers .entry)) (now (texts .entry))) (Datagram time sender receiver (take datagramMax (unhexed (now (digits .entry))))) [] [] (tables (now (head .entry)) links (now (searches .entry)) (now (numbers .exit)) (now (texts .exit))) r) ⌝ }
 {
     let mut bytes = no_datagram();
     let n = hexadecimal::write_unhexed(&mut bytes, digits);
-    e.on_data(time, sender, receiver, part::front(&bytes, n))
+    calls::on_data(
+        head,
+        searches,
+        numbers,
+        texts,
+        time,
+        sender,
+        receiver,
+        part::front(&bytes, n),
+    )
 }
 
 // `advertise`.
 pub(crate) fn advertise(
-    e: Engine,
+    head: &mut Head,
+    links: &Links,
+    numbers: &mut Numbers,
+    texts: &mut Texts,
     line: &[u8],
     name: Place,
     kind: Place,
     location: Place,
     outbox: &mut [u8],
-) -> Answered
-    ensures { λ r. ⌜ Answers e (Advertise (partOf (now (line .entry)) name) (partOf (now (line .entry)) kind) (partOf (now (line .entry)) location) (length (now (outbox .entry)))) (now (outbox .entry)) (now (outbox .exit)) r ⌝ }
+) -> Answer
+    ensures { λ r. ⌜ ((searches : List ℕ) → Answering (tables (now (head .entry)) (now (links .entry)) searches (now (numbers .entry)) (now (texts .entry))) (Advertise (partOf (now (line .entry)) name) (partOf (now (line .entry)) kind) (partOf (now (line .entry)) location) (length (now (outbox .entry)))) (now (outbox .entry)) (now (outbox .exit)) (tables (now (head .exit)) (now (links .entry)) searches (now (numbers .exit)) (now (texts .exit))) r) ⌝ }
 {
-    e.advertise(
+    calls::advertise(
+        head,
+        links,
+        numbers,
+        texts,
         part_of(line, name),
         part_of(line, kind),
         part_of(line, location),

@@ -4,6 +4,8 @@ use console::buffer;
 use console::decimal;
 use console::hexadecimal;
 use console::part;
+use engine::sizes::RECORD_HEAD;
+use engine::sizes::RECORD_SIZE;
 ghost use mathlib.Core.Path.{_≡_};
 ghost use Prim.Native.Nat.{_<_};
 ghost use lib.Dec.{eqb};
@@ -12,11 +14,6 @@ ghost use Rattle.console.specs.Buffer.{Appends};
 ghost use Rattle.console.specs.Each.{all};
 ghost use Rattle.dialogue.specs.Printing.{numberAt, headLine, recordLine};
 ghost use Rattle.dialogue.specs.Outbox.{recordAt, padded, allPadded, clean, mark};
-
-// The bytes of a record, and of its head.
-const RECORD_SIZE: usize = 524;
-
-const HEAD_SIZE: usize = 12;
 
 // What every byte of the outbox is before a call.
 const MARK: u8 = 165;
@@ -57,7 +54,7 @@ pub fn append_record(buf: &mut [u8], len: usize, s: &[u8]) -> usize
     let size = number_at(s, 10);
     let next = append_head(buf, len, s);
     let next = decimal::append_number(buf, next, size as u64, b' ');
-    let message = part::front(part::tail(s, HEAD_SIZE), size);
+    let message = part::front(part::tail(s, RECORD_HEAD), size);
     let next = hexadecimal::append_hex(buf, next, message);
     buffer::push(buf, next, b'\n')
 }
@@ -92,7 +89,7 @@ fn is_padded(s: &[u8]) -> bool
     ensures { λ r. ⌜ r ≡ padded (now (s .entry)) ⌝ }
 {
     let size = number_at(s, 10);
-    is_all(part::tail(s, HEAD_SIZE + size), 0)
+    is_all(part::tail(s, RECORD_HEAD + size), 0)
 }
 
 // Whether the first `n` records are.

@@ -1,42 +1,29 @@
-// One line after the other: what is held between two lines, and what a line does to it.
+// One line after the other: what a line does to the engine in its lent arrays. Whether an engine has begun is held beside them.
 use crate::ask;
 use console::command::Command;
 use console::part::part_of;
 use engine::advertisement::Endpoint;
+use engine::calls;
 use engine::engine::Answer;
-use engine::engine::Answered;
-use engine::engine::Engine;
+use engine::sizes::Head;
+use engine::sizes::Links;
+use engine::sizes::Numbers;
+use engine::sizes::Searches;
+use engine::sizes::Texts;
 ghost use mathlib.Core.Path.{_≡_};
 ghost use mathlib.Core.Bool.{true, false};
 ghost use mathlib.Core.List.{List, []};
 ghost use Prim.Native.Nat.{ℕ};
 ghost use lib.ListN.{length};
+ghost use Rattle.engine.specs.Arrays.{tables};
 ghost use Rattle.dialogue.specs.Asking.{asked};
 ghost use Rattle.dialogue.specs.Obeying.{Begun, Obeys};
 
-// The engine, once a `new` was accepted.
-pub struct Session {
-    pub begun: bool,
-    pub engine: Engine,
-}
-
-// What a line gives: the session after it, and the answer to print; where nothing was heard, a `?`.
+// What a line gives: whether an engine has begun then, and the answer to print; where nothing was heard, a `?`.
 pub struct Reply {
-    pub session: Session,
+    pub begun: bool,
     pub heard: bool,
     pub answer: Answer,
-}
-
-// No engine yet.
-pub fn none() -> Session
-    ensures { λ r. ⌜ r .begun ≡ false ⌝ }
-{
-    let first = Engine::new(0, 0);
-    let engine = first.engine;
-    Session {
-        begun: false,
-        engine: engine,
-    }
 }
 
 fn no_answer() -> Answer {
@@ -57,49 +44,43 @@ fn no_answer() -> Answer {
 }
 
 // A line that is not heard.
-fn unheard(s: Session) -> Reply
-    ensures { λ r. ⌜ (r .session ≡ s) × (r .heard ≡ false) ⌝ }
+fn unheard(begun: bool) -> Reply
+    ensures { λ r. ⌜ (r .begun ≡ begun) × (r .heard ≡ false) ⌝ }
 {
     Reply {
-        session: s,
+        begun: begun,
         heard: false,
         answer: no_answer(),
     }
 }
 
-// A call was made: its answer is printed, and the session goes on with the engine after it.
-fn heard(a: Answered, begun: bool) -> Reply
-    ensures { λ r. ⌜ (r .session .begun ≡ begun) × (r .session .engine ≡ a .engine) × (r .heard ≡ true) × (r .answer ≡ a .answer) ⌝ }
+// A call was made: its answer is printed.
+fn heard(answer: Answer, begun: bool) -> Reply
+    ensures { λ r. ⌜ (r .begun ≡ begun) × (r .heard ≡ true) × (r .answer ≡ answer) ⌝ }
 {
-    let engine = a.engine;
-    let answer = a.answer;
     Reply {
-        session: Session {
-            begun: begun,
-            engine: engine,
-        },
+        begun: begun,
         heard: true,
         answer: answer,
     }
 }
 
 // The engine begins, if its `new` is accepted.
-fn begin(seed: u32, time: u64) -> Reply
-    ensures { λ r. ⌜ Begun seed time [] [] r ⌝ }
+fn begin(head: &mut Head, numbers: &Numbers, seed: u32, time: u64) -> Reply
+    ensures { λ r. ⌜ ((links searches texts : List ℕ) → Begun seed time [] [] (tables (now (head .exit)) links searches (now (numbers .entry)) texts) r) ⌝ }
 {
-    let first = Engine::new(seed, time);
-    let answer = first.answer;
-    heard(first, answer.refusal == 0)
+    let answer = calls::new(head, numbers, seed, time);
+    heard(answer, answer.refusal == 0)
 }
 
 // A line before an accepted `new`.
-fn obey_first(s: Session, command: Command) -> Reply
-    ensures { λ r. ⌜ ((line outbox : List ℕ) → Obeys false (asked line (length outbox) command) s outbox outbox r) ⌝ }
+fn obey_first(head: &mut Head, numbers: &Numbers, command: Command) -> Reply
+    ensures { λ r. ⌜ ((links searches texts line outbox : List ℕ) → Obeys false (asked line (length outbox) command) (tables (now (head .entry)) links searches (now (numbers .entry)) texts) outbox outbox (tables (now (head .exit)) links searches (now (numbers .entry)) texts) r) ⌝ }
 {
     let Command::New(seed, time) = command else {
-        return unheard(s);
+        return unheard(false);
     };
-    begin(seed, time)
+    begin(head, numbers, seed, time)
 }
 
 // Where a datagram came from.
@@ -113,61 +94,150 @@ fn at(address: u32, port: u16) -> Endpoint
 }
 
 // A line after it: a call of the engine, or nothing that is heard.
-fn obey_next(s: Session, line: &[u8], command: Command, outbox: &mut [u8]) -> Reply
-    ensures { λ r. ⌜ Obeys true (asked (now (line .entry)) (length (now (outbox .entry))) command) s (now (outbox .entry)) (now (outbox .exit)) r ⌝ }
+fn obey_next(
+    head: &mut Head,
+    links: &mut Links,
+    searches: &mut Searches,
+    numbers: &mut Numbers,
+    texts: &mut Texts,
+    line: &[u8],
+    command: Command,
+    outbox: &mut [u8],
+) -> Reply
+    ensures { λ r. ⌜ Obeys true (asked (now (line .entry)) (length (now (outbox .entry))) command) (tables (now (head .entry)) (now (links .entry)) (now (searches .entry)) (now (numbers .entry)) (now (texts .entry))) (now (outbox .entry)) (now (outbox .exit)) (tables (now (head .exit)) (now (links .exit)) (now (searches .exit)) (now (numbers .exit)) (now (texts .exit))) r ⌝ }
 {
-    let e = s.engine;
     match command {
-        Command::Unreadable => unheard(s),
-        Command::New(_, _) => unheard(s),
-        Command::Lend(_) => unheard(s),
+        Command::Unreadable => unheard(true),
+        Command::New(_, _) => unheard(true),
+        Command::Lend(_) => unheard(true),
         Command::NewLink(index, flags, outcome) => heard(
-            e.new_link(index, flags, outcome, outbox),
+            calls::new_link(
+                head,
+                links,
+                searches,
+                numbers,
+                texts,
+                index,
+                flags,
+                outcome,
+                outbox,
+            ),
             true,
         ),
-        Command::DeletedLink(index, outcome) => heard(e.deleted_link(index, outcome), true),
+        Command::DeletedLink(index, outcome) => heard(
+            calls::deleted_link(head, links, numbers, index, outcome),
+            true,
+        ),
         Command::NewAddress(index, address) => heard(
-            ask::new_address(e, index, address, outbox),
+            ask::new_address(
+                head,
+                links,
+                searches,
+                numbers,
+                texts,
+                index,
+                address,
+                outbox,
+            ),
             true,
         ),
         Command::DeletedAddress(index, address) => heard(
-            ask::deleted_address(e, index, address),
+            ask::deleted_address(head, links, numbers, index, address),
             true,
         ),
-        Command::Subscribe(kind) => heard(e.subscribe(part_of(line, kind), outbox), true),
+        Command::Subscribe(kind) => heard(
+            calls::subscribe(head, links, searches, numbers, part_of(line, kind), outbox),
+            true,
+        ),
         Command::Advertise(name, kind, location) => heard(
-            ask::advertise(e, line, name, kind, location, outbox),
+            ask::advertise(
+                head,
+                links,
+                numbers,
+                texts,
+                line,
+                name,
+                kind,
+                location,
+                outbox,
+            ),
             true,
         ),
-        Command::Deadvertise(name) => heard(e.deadvertise(part_of(line, name), outbox), true),
-        Command::Refresh => heard(e.refresh(outbox), true),
+        Command::Deadvertise(name) => heard(
+            calls::deadvertise(head, links, numbers, texts, part_of(line, name), outbox),
+            true,
+        ),
+        Command::Refresh => heard(
+            calls::refresh(head, links, searches, numbers, texts, outbox),
+            true,
+        ),
         Command::Datagram(time, sender, port, receiver, text) => heard(
-            ask::on_text(e, time, at(sender, port), receiver, part_of(line, text)),
+            ask::on_text(
+                head,
+                searches,
+                numbers,
+                texts,
+                time,
+                at(sender, port),
+                receiver,
+                part_of(line, text),
+            ),
             true,
         ),
-        Command::Timeout(time) => heard(e.handle_timeout(time, outbox), true),
-        Command::Reset(time) => heard(e.reset_refresh_timer(time), true),
+        Command::Timeout(time) => heard(
+            calls::handle_timeout(head, links, searches, numbers, texts, time, outbox),
+            true,
+        ),
+        Command::Reset(time) => heard(calls::reset_refresh_timer(head, numbers, time), true),
         Command::HexDatagram(time, sender, port, receiver, digits) => heard(
-            ask::on_bytes(e, time, at(sender, port), receiver, part_of(line, digits)),
+            ask::on_bytes(
+                head,
+                searches,
+                numbers,
+                texts,
+                time,
+                at(sender, port),
+                receiver,
+                part_of(line, digits),
+            ),
             true,
         ),
         Command::NewHexAddress(index, digits) => heard(
-            ask::new_address_bytes(e, index, part_of(line, digits), outbox),
+            ask::new_address_bytes(
+                head,
+                links,
+                searches,
+                numbers,
+                texts,
+                index,
+                part_of(line, digits),
+                outbox,
+            ),
             true,
         ),
         Command::DeletedHexAddress(index, digits) => heard(
-            ask::deleted_address_bytes(e, index, part_of(line, digits)),
+            ask::deleted_address_bytes(head, links, numbers, index, part_of(line, digits)),
             true,
         ),
     }
 }
 
-// What a line does.
-pub fn obey(s: Session, line: &[u8], command: Command, outbox: &mut [u8]) -> Reply
-    ensures { λ r. ⌜ Obeys (s .begun) (asked (now (line .entry)) (length (now (outbox .entry))) command) s (now (outbox .entry)) (now (outbox .exit)) r ⌝ }
+// What a line does, where an engine has begun or not.
+pub fn obey(
+    begun: bool,
+    head: &mut Head,
+    links: &mut Links,
+    searches: &mut Searches,
+    numbers: &mut Numbers,
+    texts: &mut Texts,
+    line: &[u8],
+    command: Command,
+    outbox: &mut [u8],
+) -> Reply
+    ensures { λ r. ⌜ Obeys begun (asked (now (line .entry)) (length (now (outbox .entry))) command) (tables (now (head .entry)) (now (links .entry)) (now (searches .entry)) (now (numbers .entry)) (now (texts .entry))) (now (outbox .entry)) (now (outbox .exit)) (tables (now (head .exit)) (now (links .exit)) (now (searches .exit)) (now (numbers .exit)) (now (texts .exit))) r ⌝ }
 {
-    if s.begun {
-        return obey_next(s, line, command, outbox);
+    if begun {
+        return obey_next(head, links, searches, numbers, texts, line, command, outbox);
     }
-    obey_first(s, command)
+    obey_first(head, numbers, command)
 }

@@ -1,35 +1,36 @@
--- Both halves of demand 3 in one place: the code of each public call meets its contract, and every log of what the contracts give is as claimed.
+-- Demand 3 in one place: the code of each public call meets its contract, every log of what the contracts give is as claimed, and every list of calls has such a log.
 use Prim.Native.Nat.{ℕ}
 use mathlib.Core.List.{List}
 use Rattle.engine.specs.Calls.{Call}
 use Rattle.engine.specs.Claim.{Log, Claim}
-use Rattle.engine.specs.declared.engine.Engine.{Engine}
+use Rattle.engine.specs.EveryList.{Word, Lent, Logged}
+use Rattle.engine.specs.Arrays.{Tables as Engine}
 use Rattle.engine.specs.declared.engine.Answer.{Answer}
-use Rattle.engine.proofs.Functions.{News, Gives, functions-claim}
-use Rattle.engine.proofs.engine.Engine.new.Statement as new
-use Rattle.engine.proofs.engine.Engine.new.Met as new-met
-use Rattle.engine.proofs.engine.Engine.new_link.Statement as new-link
-use Rattle.engine.proofs.engine.Engine.new_link.Met as new-link-met
-use Rattle.engine.proofs.engine.Engine.deleted_link.Statement as deleted-link
-use Rattle.engine.proofs.engine.Engine.deleted_link.Met as deleted-link-met
-use Rattle.engine.proofs.engine.Engine.new_address.Statement as new-address
-use Rattle.engine.proofs.engine.Engine.new_address.Met as new-address-met
-use Rattle.engine.proofs.engine.Engine.deleted_address.Statement as deleted-address
-use Rattle.engine.proofs.engine.Engine.deleted_address.Met as deleted-address-met
-use Rattle.engine.proofs.engine.Engine.subscribe.Statement as subscribe
-use Rattle.engine.proofs.engine.Engine.subscribe.Met as subscribe-met
-use Rattle.engine.proofs.engine.Engine.advertise.Statement as advertise
-use Rattle.engine.proofs.engine.Engine.advertise.Met as advertise-met
-use Rattle.engine.proofs.engine.Engine.deadvertise.Statement as deadvertise
-use Rattle.engine.proofs.engine.Engine.deadvertise.Met as deadvertise-met
-use Rattle.engine.proofs.engine.Engine.refresh.Statement as refresh
-use Rattle.engine.proofs.engine.Engine.refresh.Met as refresh-met
-use Rattle.engine.proofs.engine.Engine.on_data.Statement as on-data
-use Rattle.engine.proofs.engine.Engine.on_data.Met as on-data-met
-use Rattle.engine.proofs.engine.Engine.handle_timeout.Statement as handle-timeout
-use Rattle.engine.proofs.engine.Engine.handle_timeout.Met as handle-timeout-met
-use Rattle.engine.proofs.engine.Engine.reset_refresh_timer.Statement as reset-refresh-timer
-use Rattle.engine.proofs.engine.Engine.reset_refresh_timer.Met as reset-refresh-timer-met
+use Rattle.engine.proofs.Functions.{News, Gives, functions-claim, functions-logged}
+use Rattle.engine.proofs.calls.new.Statement as new
+use Rattle.engine.proofs.calls.new.Met as new-met
+use Rattle.engine.proofs.calls.new_link.Statement as new-link
+use Rattle.engine.proofs.calls.new_link.Met as new-link-met
+use Rattle.engine.proofs.calls.deleted_link.Statement as deleted-link
+use Rattle.engine.proofs.calls.deleted_link.Met as deleted-link-met
+use Rattle.engine.proofs.calls.new_address.Statement as new-address
+use Rattle.engine.proofs.calls.new_address.Met as new-address-met
+use Rattle.engine.proofs.calls.deleted_address.Statement as deleted-address
+use Rattle.engine.proofs.calls.deleted_address.Met as deleted-address-met
+use Rattle.engine.proofs.calls.subscribe.Statement as subscribe
+use Rattle.engine.proofs.calls.subscribe.Met as subscribe-met
+use Rattle.engine.proofs.calls.advertise.Statement as advertise
+use Rattle.engine.proofs.calls.advertise.Met as advertise-met
+use Rattle.engine.proofs.calls.deadvertise.Statement as deadvertise
+use Rattle.engine.proofs.calls.deadvertise.Met as deadvertise-met
+use Rattle.engine.proofs.calls.refresh.Statement as refresh
+use Rattle.engine.proofs.calls.refresh.Met as refresh-met
+use Rattle.engine.proofs.calls.on_data.Statement as on-data
+use Rattle.engine.proofs.calls.on_data.Met as on-data-met
+use Rattle.engine.proofs.calls.handle_timeout.Statement as handle-timeout
+use Rattle.engine.proofs.calls.handle_timeout.Met as handle-timeout-met
+use Rattle.engine.proofs.calls.reset_refresh_timer.Statement as reset-refresh-timer
+use Rattle.engine.proofs.calls.reset_refresh_timer.Met as reset-refresh-timer-met
 
 pub record Certificate (M : Type 1) : Type 2 where
   pub new-meets : new.statement M
@@ -45,6 +46,7 @@ pub record Certificate (M : Type 1) : Type 2 where
   pub handle-timeout-meets : handle-timeout.statement M
   pub reset-refresh-timer-meets : reset-refresh-timer.statement M
   pub claim : {seed time : ℕ} {cs : List Call} {as′ : List Answer} {e : Engine} → (l : Log News Gives seed time cs as′ e) → Claim l
+  pub logs : (seed time : ℕ) → Word seed → (lent : List (Call × List ℕ)) → Lent lent → Logged News Gives seed time lent
 
 pub certificate : (M : Type 1) → Certificate M
 certificate M = record {
@@ -61,4 +63,5 @@ certificate M = record {
   handle-timeout-meets = handle-timeout-met.met;
   reset-refresh-timer-meets = reset-refresh-timer-met.met;
   claim = functions-claim;
+  logs = functions-logged;
 }

@@ -50,6 +50,8 @@ pub mod Orders
 pub mod Bound
 pub mod Reachable
 pub mod Messages
+pub mod Storing
+pub mod Ranges
 pub mod Demand3
 pub mod EveryList
 pub mod NothingDue

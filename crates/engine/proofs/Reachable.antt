@@ -252,7 +252,7 @@ reachable-fresh seed time = record {
   subscribed = record { few = omega arith; fit = nobody };
 }
 
-accepted-reachable : Laws → (h : Held) (c : Call) → turned h c ≡ 0 → Reachable h → Reachable (accepted h c .after)
+pub accepted-reachable : Laws → (h : Held) (c : Call) → turned h c ≡ 0 → Reachable h → Reachable (accepted h c .after)
 unfolding accepted turned
 accepted-reachable laws h c e r =
     let p = passed (h .context) (namesOf h c) c e in

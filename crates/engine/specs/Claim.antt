@@ -1,5 +1,5 @@
 -- Demand 3, the statement: one claim about every list of calls (document 01, 'Engine and ledger'; proved in proofs/Demand3). `Claim`, at the end, says it.
--- It rests on the ledger (Ledger), on what the calls promise (Engine: `Begins`, `Answers`) and on the records and their bytes (Records, Layout).
+-- It rests on the ledger (Ledger), on what the calls promise (Promises: `Begins`, `Answers`) and on the records and their bytes (Records, Layout).
 -- A list is given the latest call first, so that the calls before one are the rest of the list. `In x l` says that x stands in l.
 use Prim.Native.Nat.{ℕ, _+_, _≤_, _<_}
 use mathlib.Core.Path.{_≡_}
@@ -9,18 +9,18 @@ use mathlib.Core.Option.{none, some}
 use lib.ListN.{length}
 use Rattle.engine.specs.Sizes.{recordsMax}
 use Rattle.engine.specs.Target.{targetMatch}
-use Rattle.engine.specs.Held.{Advertisement, held}
+use Rattle.engine.specs.Held.{Advertisement}
 use Rattle.engine.specs.Calls.{Call, Timeout, Query, Asks, acts, Counts, zeros, plus}
 use Rattle.engine.specs.Links.{upAddresses}
 use Rattle.engine.specs.Records.{Record, refreshRecords, salvoDue}
 use Rattle.engine.specs.Layout.{textOf, messageOf, written}
 use Rattle.engine.specs.Engine.{step}
+use Rattle.engine.specs.Arrays.{Tables as Engine, heldIn as held}
+use Rattle.engine.specs.Promises.{Answered}
 use Rattle.engine.specs.Ledger.{Wait, Name, withWait, waitsIn, opened, loneReply, repliesTo, Ledger, refusalIn, entry, ledgerOf, sumsOf, ledgerRecords}
 use Rattle.engine.specs.declared.advertisement.ResponseNeeded.{ResponseNeeded}
 use Rattle.engine.specs.declared.advertisement.ResponseNeeded.the-variants.{None, Multicast, Unicast}
-use Rattle.engine.specs.declared.engine.Engine.{Engine}
 use Rattle.engine.specs.declared.engine.Answer.{Answer}
-use Rattle.engine.specs.declared.engine.Answered.{Answered}
 
 -- A list begins with one `new`, accepted or refused; then each call gets the engine that the call before it returned, with any arguments and any outbox.
 -- New and Gives say what the calls may have given: by the definitions `Begins` and `Answers`, or what a caller learns from the functions' contracts.

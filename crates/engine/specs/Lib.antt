@@ -34,4 +34,5 @@ pub mod Arrays
 pub mod Changes
 pub mod Promises
 pub mod Claim
+pub mod EveryList
 pub mod StarCases

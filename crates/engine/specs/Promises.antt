@@ -20,3 +20,17 @@ pub record Answering (t : Tables) (c : Call) (outbox outbox′ : List ℕ) (t′
 pub record Beginning (seed time : ℕ) (t′ : Tables) (r : Answer) : Type 0 where
   pub answer : r ≡ newStep (newRefusal time) seed time .answer
   pub tables : heldIn t′ ≡ newStep (newRefusal time) seed time .after
+
+-- a call's answer with the engine after it: the contents of the five arrays
+pub record Answered : Type 0 where
+  pub engine : Tables
+  pub answer : Answer
+
+abbrev pub answered : Tables → Answer → Answered
+answered t r = record { engine = t; answer = r }
+
+abbrev pub Answers : Tables → Call → List ℕ → List ℕ → Answered → Type 0
+Answers e c outbox outbox′ r = Answering e c outbox outbox′ (r .engine) (r .answer)
+
+abbrev pub Begins : ℕ → ℕ → Answered → Type 0
+Begins seed time r = Beginning seed time (r .engine) (r .answer)

@@ -8,17 +8,27 @@ use console::part;
 use dialogue::answer;
 use dialogue::record;
 use dialogue::session;
-use dialogue::session::Session;
 use engine::engine::Answer;
+use engine::sizes::HEAD_PLACES;
+use engine::sizes::Head;
+use engine::sizes::LINK_NUMBERS;
+use engine::sizes::Links;
+use engine::sizes::NUMBERS_SIZE;
+use engine::sizes::Numbers;
+use engine::sizes::OUTBOX_SIZE;
+use engine::sizes::SEARCH_BYTES;
+use engine::sizes::Searches;
+use engine::sizes::TEXTS_SIZE;
+use engine::sizes::Texts;
 ghost use mathlib.Core.Path.{_≡_};
 ghost use lib.ListN.{length};
 
 // What is lent to a call, until `trace` reads `outbox`.
-const LENT: usize = 62880;
+const LENT: usize = OUTBOX_SIZE;
 
-// What is held between two lines: the session, how many bytes are lent, and whether records are printed.
+// What is held between two lines, besides the engine's arrays: whether an engine has begun, how many bytes are lent, and whether records are printed.
 struct Running {
-    session: Session,
+    begun: bool,
     lent: usize,
     traced: bool,
 }
@@ -100,24 +110,40 @@ fn print_reply(outbox: &[u8], traced: bool, heard: bool, a: Answer) {
 }
 
 // A call, or nothing that is heard.
-fn obey(r: Running, line: &[u8], c: Command, outbox: &mut [u8]) -> Running {
-    let lent = r.lent;
-    let traced = r.traced;
-    mark(outbox, traced);
-    let reply = session::obey(r.session, line, c, outbox);
-    let next = reply.session;
+fn obey(
+    r: Running,
+    head: &mut Head,
+    links: &mut Links,
+    searches: &mut Searches,
+    numbers: &mut Numbers,
+    texts: &mut Texts,
+    line: &[u8],
+    c: Command,
+    outbox: &mut [u8],
+) -> Running {
+    mark(outbox, r.traced);
+    let reply = session::obey(
+        r.begun,
+        head,
+        links,
+        searches,
+        numbers,
+        texts,
+        line,
+        c,
+        outbox,
+    );
     let a = reply.answer;
-    print_reply(outbox, traced, reply.heard, a);
+    print_reply(outbox, r.traced, reply.heard, a);
     Running {
-        session: next,
-        lent: lent,
-        traced: traced,
+        begun: reply.begun,
+        lent: r.lent,
+        traced: r.traced,
     }
 }
 
 fn lend(r: Running, n: usize) -> Running {
-    let s = r.session;
-    if !s.begun {
+    if !r.begun {
         io::write_all(1, b"?\n");
         return r;
     }
@@ -128,19 +154,48 @@ fn lend(r: Running, n: usize) -> Running {
 }
 
 // The same with as much of the outbox as is lent.
-fn obey_lent(r: Running, line: &[u8], c: Command, outbox: &mut [u8]) -> Running {
+fn obey_lent(
+    r: Running,
+    head: &mut Head,
+    links: &mut Links,
+    searches: &mut Searches,
+    numbers: &mut Numbers,
+    texts: &mut Texts,
+    line: &[u8],
+    c: Command,
+    outbox: &mut [u8],
+) -> Running {
     let room = r.lent;
     if outbox.len() <= room {
-        return obey(r, line, c, outbox);
+        return obey(r, head, links, searches, numbers, texts, line, c, outbox);
     }
-    obey(r, line, c, &mut outbox[0..room])
+    obey(
+        r,
+        head,
+        links,
+        searches,
+        numbers,
+        texts,
+        line,
+        c,
+        &mut outbox[0..room],
+    )
 }
 
 // One line.
-fn on_line(r: Running, line: &[u8], outbox: &mut [u8]) -> Running {
+fn on_line(
+    r: Running,
+    head: &mut Head,
+    links: &mut Links,
+    searches: &mut Searches,
+    numbers: &mut Numbers,
+    texts: &mut Texts,
+    line: &[u8],
+    outbox: &mut [u8],
+) -> Running {
     let c = command_of(line, r.traced);
     let Command::Lend(n) = c else {
-        return obey_lent(r, line, c, outbox);
+        return obey_lent(r, head, links, searches, numbers, texts, line, c, outbox);
     };
     lend(r, n as usize)
 }
@@ -153,7 +208,17 @@ struct Turn {
     used: usize,
 }
 
-fn on_event(r: Running, line: &[u8], event: Event, outbox: &mut [u8]) -> Turn {
+fn on_event(
+    r: Running,
+    head: &mut Head,
+    links: &mut Links,
+    searches: &mut Searches,
+    numbers: &mut Numbers,
+    texts: &mut Texts,
+    line: &[u8],
+    event: Event,
+    outbox: &mut [u8],
+) -> Turn {
     match event {
         Event::More(n) => Turn {
             running: r,
@@ -161,7 +226,16 @@ fn on_event(r: Running, line: &[u8], event: Event, outbox: &mut [u8]) -> Turn {
             used: 0,
         },
         Event::Line { len, used } => {
-            let next = on_line(r, part::front(line, len), outbox);
+            let next = on_line(
+                r,
+                head,
+                links,
+                searches,
+                numbers,
+                texts,
+                part::front(line, len),
+                outbox,
+            );
             Turn {
                 running: next,
                 held: 0,
@@ -180,14 +254,34 @@ fn on_event(r: Running, line: &[u8], event: Event, outbox: &mut [u8]) -> Turn {
 }
 
 // What a chunk brings. Each turn uses up a byte at least: a line with its end, or the rest, which is no whole line.
-fn on_chunk(t: Taken, line: &mut [u8], chunk: &[u8], outbox: &mut [u8]) -> Taken {
+fn on_chunk(
+    t: Taken,
+    head: &mut Head,
+    links: &mut Links,
+    searches: &mut Searches,
+    numbers: &mut Numbers,
+    texts: &mut Texts,
+    line: &mut [u8],
+    chunk: &[u8],
+    outbox: &mut [u8],
+) -> Taken {
     let mut running = t.running;
     let mut held = t.held;
     let mut at: usize = 0;
     let mut turns = chunk.len();
     while 0 < turns {
         let event = input::gather(line, held, part::tail(chunk, at));
-        let turn = on_event(running, line, event, outbox);
+        let turn = on_event(
+            running,
+            head,
+            links,
+            searches,
+            numbers,
+            texts,
+            line,
+            event,
+            outbox,
+        );
         let next = turn.running;
         running = next;
         held = turn.held;
@@ -207,11 +301,29 @@ fn on_chunk(t: Taken, line: &mut [u8], chunk: &[u8], outbox: &mut [u8]) -> Taken
 }
 
 // The input has ended: what is left of it is a line, if there is anything.
-fn on_end(t: Taken, line: &[u8], outbox: &mut [u8]) {
+fn on_end(
+    t: Taken,
+    head: &mut Head,
+    links: &mut Links,
+    searches: &mut Searches,
+    numbers: &mut Numbers,
+    texts: &mut Texts,
+    line: &[u8],
+    outbox: &mut [u8],
+) {
     match input::finish(line, t.held) {
         Event::More(_) => {}
         Event::Line { len, used } => {
-            on_line(t.running, part::front(line, len), outbox);
+            on_line(
+                t.running,
+                head,
+                links,
+                searches,
+                numbers,
+                texts,
+                part::front(line, len),
+                outbox,
+            );
         }
         Event::TooLong(_) => {
             io::write_all(1, b"?\n");
@@ -221,10 +333,9 @@ fn on_end(t: Taken, line: &[u8], outbox: &mut [u8]) {
 
 // Before the first line.
 fn none(traced: bool) -> Taken {
-    let first = session::none();
     Taken {
         running: Running {
-            session: first,
+            begun: false,
             lent: LENT,
             traced: traced,
         },
@@ -232,8 +343,34 @@ fn none(traced: bool) -> Taken {
     }
 }
 
+// The arrays of an engine that has not begun: any content would do.
+fn no_head() -> Head {
+    [0; HEAD_PLACES]
+}
+
+fn no_links() -> Links {
+    [0; LINK_NUMBERS]
+}
+
+fn no_searches() -> Searches {
+    [0; SEARCH_BYTES]
+}
+
+fn no_numbers() -> Numbers {
+    [0; NUMBERS_SIZE]
+}
+
+fn no_texts() -> Texts {
+    [0; TEXTS_SIZE]
+}
+
 // Reads standard input to its end and answers each line.
 pub fn run(traced: bool) {
+    let mut head = no_head();
+    let mut links = no_links();
+    let mut searches = no_searches();
+    let mut numbers = no_numbers();
+    let mut texts = no_texts();
     let mut outbox = io::large_buffer();
     let mut line = no_line();
     let mut chunk = io::buffer();
@@ -243,10 +380,29 @@ pub fn run(traced: bool) {
         let got = libc::read(0, &mut chunk);
         let n = io::count(got, &chunk);
         if n == 0 {
-            on_end(taken, &line, &mut outbox);
+            on_end(
+                taken,
+                &mut head,
+                &mut links,
+                &mut searches,
+                &mut numbers,
+                &mut texts,
+                &line,
+                &mut outbox,
+            );
             return;
         }
-        let next = on_chunk(taken, &mut line, part::front(&chunk, n), &mut outbox);
+        let next = on_chunk(
+            taken,
+            &mut head,
+            &mut links,
+            &mut searches,
+            &mut numbers,
+            &mut texts,
+            &mut line,
+            part::front(&chunk, n),
+            &mut outbox,
+        );
         taken = next;
         turns -= 1;
     }

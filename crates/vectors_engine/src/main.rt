@@ -2,16 +2,20 @@
 // polls and what document 01 counts and refuses, and prints how many calls there were and how many differ.
 // differential/record/src/engine.rs made the lists and says what each field of a line is: one call a line.
 use engine::advertisement::Endpoint;
+use engine::calls;
 use engine::engine::Answer;
-use engine::engine::Answered;
-use engine::engine::Engine;
+use engine::sizes::HEAD_PLACES;
+use engine::sizes::Head;
+use engine::sizes::LINK_NUMBERS;
+use engine::sizes::Links;
+use engine::sizes::NUMBERS_SIZE;
+use engine::sizes::Numbers;
+use engine::sizes::RECORD_SIZE;
+use engine::sizes::SEARCH_BYTES;
+use engine::sizes::Searches;
+use engine::sizes::TEXTS_SIZE;
+use engine::sizes::Texts;
 use recorded::Tally;
-
-// The engine between two calls, and what was seen so far.
-struct Progress {
-    engine: Engine,
-    tally: Tally,
-}
 
 fn number(line: &[u8], k: usize) -> u64 {
     recorded::number(recorded::field(line, k))
@@ -35,44 +39,107 @@ fn letter(line: &[u8]) -> u8 {
 }
 
 // The three texts are fields 6 to 8.
-fn advertise(e: Engine, line: &[u8], outbox: &mut [u8]) -> Answered {
+fn advertise(
+    head: &mut Head,
+    links: &Links,
+    numbers: &mut Numbers,
+    texts: &mut Texts,
+    line: &[u8],
+    outbox: &mut [u8],
+) -> Answer {
     let mut name = io::buffer();
     let mut kind = io::buffer();
     let mut location = io::buffer();
     let a = recorded::bytes(recorded::field(line, 6), &mut name);
     let b = recorded::bytes(recorded::field(line, 7), &mut kind);
     let c = recorded::bytes(recorded::field(line, 8), &mut location);
-    e.advertise(&name[..a], &kind[..b], &location[..c], outbox)
+    calls::advertise(
+        head,
+        links,
+        numbers,
+        texts,
+        &name[..a],
+        &kind[..b],
+        &location[..c],
+        outbox,
+    )
 }
 
-fn datagram(e: Engine, line: &[u8], text: &[u8]) -> Answered {
+fn datagram(
+    head: &Head,
+    searches: &Searches,
+    numbers: &mut Numbers,
+    texts: &mut Texts,
+    line: &[u8],
+    text: &[u8],
+) -> Answer {
     let sender = Endpoint {
         address: number32(line, 3),
         port: number16(line, 4),
     };
-    e.on_data(number(line, 2), sender, number32(line, 5), text)
+    calls::on_data(
+        head,
+        searches,
+        numbers,
+        texts,
+        number(line, 2),
+        sender,
+        number32(line, 5),
+        text,
+    )
 }
 
 // The call of a line on an engine; `text` is its first text.
-fn called(e: Engine, line: &[u8], text: &[u8], outbox: &mut [u8]) -> Answered {
+fn called(
+    head: &mut Head,
+    links: &mut Links,
+    searches: &mut Searches,
+    numbers: &mut Numbers,
+    texts: &mut Texts,
+    line: &[u8],
+    text: &[u8],
+    outbox: &mut [u8],
+) -> Answer {
     match letter(line) {
-        b'l' => e.new_link(
+        b'l' => calls::new_link(
+            head,
+            links,
+            searches,
+            numbers,
+            texts,
             number32(line, 2),
             number32(line, 3),
             number32(line, 4),
             outbox,
         ),
-        b'd' => e.deleted_link(number32(line, 2), number32(line, 3)),
-        b'a' => e.new_address(number32(line, 2), text, outbox),
-        b'x' => e.deleted_address(number32(line, 2), text),
-        b's' => e.subscribe(text, outbox),
-        b'v' => advertise(e, line, outbox),
-        b'w' => e.deadvertise(text, outbox),
-        b'r' => e.refresh(outbox),
-        b'p' => datagram(e, line, text),
-        b't' => e.handle_timeout(number(line, 2), outbox),
-        b'z' => e.reset_refresh_timer(number(line, 2)),
-        _ => Engine::new(number32(line, 2), number(line, 3)),
+        b'd' => calls::deleted_link(head, links, numbers, number32(line, 2), number32(line, 3)),
+        b'a' => calls::new_address(
+            head,
+            links,
+            searches,
+            numbers,
+            texts,
+            number32(line, 2),
+            text,
+            outbox,
+        ),
+        b'x' => calls::deleted_address(head, links, numbers, number32(line, 2), text),
+        b's' => calls::subscribe(head, links, searches, numbers, text, outbox),
+        b'v' => advertise(head, links, numbers, texts, line, outbox),
+        b'w' => calls::deadvertise(head, links, numbers, texts, text, outbox),
+        b'r' => calls::refresh(head, links, searches, numbers, texts, outbox),
+        b'p' => datagram(head, searches, numbers, texts, line, text),
+        b't' => calls::handle_timeout(
+            head,
+            links,
+            searches,
+            numbers,
+            texts,
+            number(line, 2),
+            outbox,
+        ),
+        b'z' => calls::reset_refresh_timer(head, numbers, number(line, 2)),
+        _ => calls::new(head, numbers, number32(line, 2), number(line, 3)),
     }
 }
 
@@ -98,68 +165,140 @@ fn is_told(line: &[u8], a: Answer) -> bool {
 
 // Whether the outbox has the records that field 21 stands for, and behind them what it had before.
 fn is_sent(line: &[u8], outbox: &[u8], records: usize) -> bool {
-    if outbox.len() / 524 < records {
+    if outbox.len() / RECORD_SIZE < records {
         return false;
     }
-    let end = 524 * records;
+    let end = RECORD_SIZE * records;
     is_number(line, 21, recorded::digest(&outbox[0..end])) & recorded::is_filled(&outbox[end..])
 }
 
-fn replayed(r: Progress, line: &[u8], text: &[u8], outbox: &mut [u8]) -> Progress {
+fn replayed(
+    head: &mut Head,
+    links: &mut Links,
+    searches: &mut Searches,
+    numbers: &mut Numbers,
+    texts: &mut Texts,
+    tally: Tally,
+    line: &[u8],
+    text: &[u8],
+    outbox: &mut [u8],
+) -> Tally {
     recorded::fill(outbox);
-    let done = called(r.engine, line, text, outbox);
-    let next = done.engine;
-    let a = done.answer;
+    let a = called(head, links, searches, numbers, texts, line, text, outbox);
     let same = is_counted(line, a) & is_told(line, a) & is_sent(line, outbox, a.records);
-    let tally = r.tally;
-    Progress {
-        engine: next,
-        tally: tally.with(same),
-    }
+    tally.with(same)
 }
 
 // As much of the outbox as field 1 says.
-fn with_room(r: Progress, line: &[u8], text: &[u8], outbox: &mut [u8]) -> Progress {
+fn with_room(
+    head: &mut Head,
+    links: &mut Links,
+    searches: &mut Searches,
+    numbers: &mut Numbers,
+    texts: &mut Texts,
+    tally: Tally,
+    line: &[u8],
+    text: &[u8],
+    outbox: &mut [u8],
+) -> Tally {
     let room = number(line, 1) as usize;
     if outbox.len() <= room {
-        return replayed(r, line, text, outbox);
+        return replayed(
+            head,
+            links,
+            searches,
+            numbers,
+            texts,
+            tally,
+            line,
+            text,
+            outbox,
+        );
     }
-    replayed(r, line, text, &mut outbox[0..room])
+    replayed(
+        head,
+        links,
+        searches,
+        numbers,
+        texts,
+        tally,
+        line,
+        text,
+        &mut outbox[0..room],
+    )
 }
 
-fn on_line(r: Progress, line: &[u8], outbox: &mut [u8]) -> Progress {
+fn on_line(
+    head: &mut Head,
+    links: &mut Links,
+    searches: &mut Searches,
+    numbers: &mut Numbers,
+    texts: &mut Texts,
+    tally: Tally,
+    line: &[u8],
+    outbox: &mut [u8],
+) -> Tally {
     let mut text = io::buffer();
     let n = recorded::bytes(recorded::field(line, 6), &mut text);
-    with_room(r, line, &text[..n], outbox)
-}
-
-fn none() -> Progress {
-    let first = Engine::new(0, 0);
-    let engine = first.engine;
-    Progress {
-        engine: engine,
-        tally: Tally::none(),
-    }
+    with_room(
+        head,
+        links,
+        searches,
+        numbers,
+        texts,
+        tally,
+        line,
+        &text[..n],
+        outbox,
+    )
 }
 
 // Line by line to the end of the lists, which are far shorter than a million.
-fn replay(outbox: &mut [u8]) -> Tally {
-    let mut r = none();
+fn replay(
+    head: &mut Head,
+    links: &mut Links,
+    searches: &mut Searches,
+    numbers: &mut Numbers,
+    texts: &mut Texts,
+    outbox: &mut [u8],
+) -> Tally {
+    let mut tally = Tally::none();
     let mut turns: u64 = 1000000;
     while 0 < turns {
         let mut line = io::buffer();
         let n = recorded::read_line(&mut line);
         if n == 0 {
-            return r.tally;
+            return tally;
         }
-        let next = on_line(r, &line[..n], outbox);
-        r = next;
+        let next = on_line(
+            head,
+            links,
+            searches,
+            numbers,
+            texts,
+            tally,
+            &line[..n],
+            outbox,
+        );
+        tally = next;
         turns -= 1;
     }
-    r.tally
+    tally
 }
 
 fn main() {
+    let mut head = [0u64; HEAD_PLACES];
+    let mut links = [0u64; LINK_NUMBERS];
+    let mut searches = [0u8; SEARCH_BYTES];
+    let mut numbers = [0u64; NUMBERS_SIZE];
+    let mut texts = [0u8; TEXTS_SIZE];
     let mut outbox = io::large_buffer();
-    replay(&mut outbox).print();
+    replay(
+        &mut head,
+        &mut links,
+        &mut searches,
+        &mut numbers,
+        &mut texts,
+        &mut outbox,
+    ).print();
 }

@@ -6,10 +6,10 @@ use Rattle.terminal.proofs.on_chunk.Statement.{statement}
 use Rattle.terminal.proofs.on_chunk.Tie as tie
 
 abbrev Inv-loop : tie.InvT-loop
-Inv-loop line₀ chunk outbox₀ running₀ held₀ at₀ turns₀ line outbox running held at turns = (length line ≡ length line₀) × (length outbox ≡ length outbox₀)
+Inv-loop head₀ links₀ searches₀ numbers₀ texts₀ line₀ chunk outbox₀ running₀ held₀ at₀ turns₀ head links searches numbers texts line outbox running held at turns = (length line ≡ length line₀) × (length outbox ≡ length outbox₀)
 
 abbrev μ-loop : tie.MeasureT-loop
-μ-loop line₀ chunk outbox₀ running₀ held₀ at₀ turns₀ line outbox running held at turns = turns
+μ-loop head₀ links₀ searches₀ numbers₀ texts₀ line₀ chunk outbox₀ running₀ held₀ at₀ turns₀ head links searches numbers texts line outbox running held at turns = turns
 
 loop-holds : tie.Need-loop-holds Inv-loop μ-loop
 loop-holds c = search needs
@@ -27,10 +27,10 @@ wrapping-add-usize-requires : tie.Need-wrapping-add-usize-requires Inv-loop μ-l
 wrapping-add-usize-requires c κs = search needs
 
 same-length : tie.Need-same-length Inv-loop μ-loop
-same-length c = c .before .before .before .before .before .before .before .before .before .before .before .gather .ensures .room ∙ c .before .before .before .before .before .before .before .before .before .before .before .before .before .before .before .loop .inv .0
+same-length c = c .before .before .before .before .before .before .before .before .before .before .before .before .before .before .before .before .gather .ensures .room ∙ c .before .before .before .before .before .before .before .before .before .before .before .before .before .before .before .before .before .before .before .before .loop .inv .0
 
 same-length-2 : tie.Need-same-length-2 Inv-loop μ-loop
-same-length-2 c = c .before .before .before .before .before .before .on-event .kept .1 .1 .1 .0 ∙ c .before .before .before .before .before .before .before .before .before .before .before .before .before .before .before .loop .inv .1
+same-length-2 c = c .before .before .before .before .before .before .on-event .kept .1 .1 .1 .1 .1 .1 .1 .1 .0 ∙ c .before .before .before .before .before .before .before .before .before .before .before .before .before .before .before .before .before .before .before .before .loop .inv .1
 
 returns : tie.Need-returns Inv-loop μ-loop
 returns c = search needs
@@ -42,7 +42,7 @@ loop-less : tie.Need-loop-less Inv-loop μ-loop
 loop-less c = search needs
 
 loop-again : tie.Need-loop-again Inv-loop μ-loop
-loop-again c = (c .before .before .before .before .before .before .before .before .before .before .before .gather .ensures .room ∙ c .before .before .before .before .before .before .before .before .before .before .before .before .before .before .before .loop .inv .0, c .before .before .before .before .before .before .on-event .kept .1 .1 .1 .0 ∙ c .before .before .before .before .before .before .before .before .before .before .before .before .before .before .before .loop .inv .1)
+loop-again c = (c .before .before .before .before .before .before .before .before .before .before .before .before .before .before .before .before .gather .ensures .room ∙ c .before .before .before .before .before .before .before .before .before .before .before .before .before .before .before .before .before .before .before .before .loop .inv .0, c .before .before .before .before .before .before .on-event .kept .1 .1 .1 .1 .1 .1 .1 .1 .0 ∙ c .before .before .before .before .before .before .before .before .before .before .before .before .before .before .before .before .before .before .before .before .loop .inv .1)
 
 same-length-3 : tie.Need-same-length-3 Inv-loop μ-loop
 same-length-3 c = search needs

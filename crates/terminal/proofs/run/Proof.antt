@@ -6,10 +6,25 @@ use Rattle.terminal.proofs.run.Statement.{statement}
 use Rattle.terminal.proofs.run.Tie as tie
 
 abbrev Inv-loop : tie.InvT-loop
-Inv-loop traced outbox₀ line₀ chunk₀ taken₀ turns₀ outbox line chunk taken turns = (length outbox ≡ 65536) × (length line ≡ 4098) × (length chunk ≡ 4096)
+Inv-loop traced head₀ links₀ searches₀ numbers₀ texts₀ outbox₀ line₀ chunk₀ taken₀ turns₀ head links searches numbers texts outbox line chunk taken turns = (length outbox ≡ 65536) × (length line ≡ 4098) × (length chunk ≡ 4096)
 
 abbrev μ-loop : tie.MeasureT-loop
-μ-loop traced outbox₀ line₀ chunk₀ taken₀ turns₀ outbox line chunk taken turns = turns
+μ-loop traced head₀ links₀ searches₀ numbers₀ texts₀ outbox₀ line₀ chunk₀ taken₀ turns₀ head links searches numbers texts outbox line chunk taken turns = turns
+
+no-head-requires : tie.Need-no-head-requires Inv-loop μ-loop
+no-head-requires c κs = search needs
+
+no-links-requires : tie.Need-no-links-requires Inv-loop μ-loop
+no-links-requires c κs = search needs
+
+no-searches-requires : tie.Need-no-searches-requires Inv-loop μ-loop
+no-searches-requires c κs = search needs
+
+no-numbers-requires : tie.Need-no-numbers-requires Inv-loop μ-loop
+no-numbers-requires c κs = search needs
+
+no-texts-requires : tie.Need-no-texts-requires Inv-loop μ-loop
+no-texts-requires c κs = search needs
 
 large-buffer-requires : tie.Need-large-buffer-requires Inv-loop μ-loop
 large-buffer-requires c κs = search needs
@@ -83,6 +98,11 @@ run-spec =
     (tie.spec
     Inv-loop
     μ-loop
+    no-head-requires
+    no-links-requires
+    no-searches-requires
+    no-numbers-requires
+    no-texts-requires
     large-buffer-requires
     no-line-requires
     buffer-requires

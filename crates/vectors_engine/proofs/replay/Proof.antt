@@ -6,10 +6,10 @@ use Rattle.vectors_engine.proofs.replay.Statement.{statement}
 use Rattle.vectors_engine.proofs.replay.Tie as tie
 
 abbrev Inv-loop : tie.InvT-loop
-Inv-loop outbox₀ r₀ turns₀ outbox r turns = length outbox ≡ length outbox₀
+Inv-loop head₀ links₀ searches₀ numbers₀ texts₀ outbox₀ tally₀ turns₀ head links searches numbers texts outbox tally turns = length outbox ≡ length outbox₀
 
 abbrev μ-loop : tie.MeasureT-loop
-μ-loop outbox₀ r₀ turns₀ outbox r turns = turns
+μ-loop head₀ links₀ searches₀ numbers₀ texts₀ outbox₀ tally₀ turns₀ head links searches numbers texts outbox tally turns = turns
 
 none-requires : tie.Need-none-requires Inv-loop μ-loop
 none-requires c κs = search needs

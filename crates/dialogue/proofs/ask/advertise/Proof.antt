@@ -21,7 +21,7 @@ same-length c = search needs
 
 returns : tie.Need-returns
 returns c =
-    as-call (c .before .before .advertise .ensures) (same-texts _ (c .before .before .before .before .before .before .part-of .ensures) (c .before .before .before .before .before .part-of2 .ensures) (c .before .before .before .before .part-of3 .ensures))
+    λ searches. as-call (c .before .before .advertise .ensures searches) (same-texts _ (c .before .before .before .before .before .before .part-of .ensures) (c .before .before .before .before .before .part-of2 .ensures) (c .before .before .before .before .part-of3 .ensures))
 
 pub advertise-spec : {M : Type 1} → statement M
 advertise-spec =

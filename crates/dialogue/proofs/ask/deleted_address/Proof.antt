@@ -15,7 +15,7 @@ deleted-address-requires c κs = search needs
 
 returns : tie.Need-returns
 returns c =
-    as-call (c .deleted-address .ensures) (same-deleted (c .before .before .octets-of .ensures))
+    λ searches texts. as-call (c .deleted-address .ensures searches texts) (same-deleted (c .before .before .before .before .octets-of .ensures))
 
 pub deleted-address-spec : {M : Type 1} → statement M
 deleted-address-spec =

@@ -25,7 +25,7 @@ deleted-address-requires c κs = search needs
 
 returns : tie.Need-returns
 returns c =
-    as-call (c .deleted-address .ensures) (same-deleted (front-of {room = addressMax} (c .before .front .ensures) (c .before .before .before .before .write-unhexed .ensures) (search needs)))
+    λ searches texts. as-call (c .deleted-address .ensures searches texts) (same-deleted (front-of {room = addressMax} (c .before .front .ensures) (c .before .before .before .before .before .before .write-unhexed .ensures) (search needs)))
 
 pub deleted-address-bytes-spec : {M : Type 1} → statement M
 deleted-address-bytes-spec =

@@ -18,7 +18,7 @@ same-length c = search needs
 
 returns : tie.Need-returns
 returns c =
-    as-call (c .before .before .new-address .ensures) (same-new (c .before .before .before .before .before .octets-of .ensures))
+    as-call (c .before .before .new-address .ensures) (same-new (c .before .before .before .before .before .before .before .octets-of .ensures))
 
 pub new-address-spec : {M : Type 1} → statement M
 new-address-spec =

@@ -28,7 +28,7 @@ same-length c = search needs
 
 returns : tie.Need-returns
 returns c =
-    as-call (c .before .before .new-address .ensures) (same-new (front-of {room = addressMax} (c .before .before .before .before .front .ensures) (c .before .before .before .before .before .before .before .write-unhexed .ensures) (search needs)))
+    as-call (c .before .before .new-address .ensures) (same-new (front-of {room = addressMax} (c .before .before .before .before .front .ensures) (c .before .before .before .before .before .before .before .before .before .write-unhexed .ensures) (search needs)))
 
 pub new-address-bytes-spec : {M : Type 1} → statement M
 new-address-bytes-spec =

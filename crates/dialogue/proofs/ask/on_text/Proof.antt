@@ -26,7 +26,7 @@ on-data-requires c κs = search needs
 
 returns : tie.Need-returns
 returns c =
-    as-call (c .on-data .ensures) (same-datagram refl (front-of {room = datagramMax} (c .before .front .ensures) (c .before .before .before .before .write-datagram .ensures) (search needs)))
+    λ links. as-call (c .on-data .ensures links) (same-datagram refl (front-of {room = datagramMax} (c .before .front .ensures) (c .before .before .before .before .before .before .write-datagram .ensures) (search needs)))
 
 pub on-text-spec : {M : Type 1} → statement M
 on-text-spec =

@@ -1,7 +1,6 @@
 -- `begin` meets its contract: the engine's `new`, and whether it was accepted.
 use mathlib.Core.Path.{refl, sym, _∙_, ap}
 use lib.Dec.{eqb}
-use Rattle.engine.specs.Held.{held}
 use Rattle.engine.specs.declared.engine.Answer.{Answer}
 use borrow.Author.Needs.{needs}
 use Rattle.dialogue.proofs.session.begin.Statement.{statement}
@@ -16,11 +15,12 @@ heard-requires c κs = search needs
 returns : tie.Need-returns
 returns c =
     let h = c .heard .ensures in
-    let n = c .before .before .before .new .ensures in
+    λ links searches texts.
+    let n = c .before .before .new .ensures links searches texts in
     record {
-      begins = record { answer = h .3 ∙ n .answer; engine = ap held (h .1) ∙ n .engine };
-      begun = h .0 ∙ ap (λ (a : Answer). eqb (a .refusal) 0) (sym (h .3));
-      heard = h .2;
+      begins = record { answer = h .2 ∙ n .answer; tables = n .tables };
+      begun = h .0 ∙ ap (λ (a : Answer). eqb (a .refusal) 0) (sym (h .2));
+      heard = h .1;
       kept = refl;
     }
 

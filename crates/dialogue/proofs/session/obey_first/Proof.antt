@@ -25,9 +25,9 @@ unheard-requires c κs = search needs
 
 returns : tie.Need-returns
 returns c =
-    λ line outbox. first-unheard (c .before .before .args .command)
+    λ links searches texts line outbox. first-unheard (c .before .before .args .command)
     (λ seed time p. miss others 1 tt (subst (λ (k : Command). OneOf others (tagOf the-type k)) p (c .before .match .keys2)))
-    line (length outbox) (record { session = c .unheard .ensures .0; heard = c .unheard .ensures .1; kept = refl })
+    line (length outbox) (record { tables = refl; still = c .unheard .ensures .0; heard = c .unheard .ensures .1; kept = refl })
 
 begin-requires : tie.Need-begin-requires
 begin-requires c κs = search needs
@@ -35,7 +35,9 @@ begin-requires c κs = search needs
 returns-2 : tie.Need-returns-2
 unfolding asked
 returns-2 c =
-    λ line outbox. obeyed line (length outbox) (c .before .before .command .given .1) refl (record { begins = c .begin .ensures .begins; begun = c .begin .ensures .begun; heard = c .begin .ensures .heard; kept = refl })
+    λ links searches texts line outbox.
+    let b = c .begin .ensures links searches texts in
+    obeyed line (length outbox) (c .before .before .before .command .given .1) refl (record { begins = b .begins; begun = b .begun; heard = b .heard; kept = refl })
 
 pub obey-first-spec : {M : Type 1} → statement M
 obey-first-spec =

@@ -1,4 +1,4 @@
--- `obey_next` meets its contract: command by command, the engine's call with what the line says.
+-- `obey_next` meets its contract: command by command, the engine's call with what the line says. An array that a call is not lent stays as it is.
 use mathlib.Core.Path.{refl, ap}
 use mathlib.Core.List.{List}
 use Prim.Native.Nat.{ℕ}
@@ -183,20 +183,20 @@ heard-requires-14 c κs = search needs
 returns : tie.Need-returns
 unfolding asked
 returns c =
-    let a = c .before .before .before .before .before .before .args in
-    obeyed (a .line .now) (length (a .outbox .now)) (c .before .enum-told .given .1) refl (record { session = c .unheard .ensures .0; heard = c .unheard .ensures .1; kept = refl })
+    let a = c .before .before .before .before .before .args in
+    obeyed (a .line .now) (length (a .outbox .now)) (c .before .enum-told .given .1) refl (record { tables = refl; still = c .unheard .ensures .0; heard = c .unheard .ensures .1; kept = refl })
 
 returns-2 : tie.Need-returns-2
 unfolding asked
 returns-2 c =
-    let a = c .before .before .before .before .before .before .args in
-    obeyed (a .line .now) (length (a .outbox .now)) (c .before .enum-told2 .given .1) refl (record { session = c .unheard2 .ensures .0; heard = c .unheard2 .ensures .1; kept = refl })
+    let a = c .before .before .before .before .before .args in
+    obeyed (a .line .now) (length (a .outbox .now)) (c .before .enum-told2 .given .1) refl (record { tables = refl; still = c .unheard2 .ensures .0; heard = c .unheard2 .ensures .1; kept = refl })
 
 returns-3 : tie.Need-returns-3
 unfolding asked
 returns-3 c =
-    let a = c .before .before .before .before .before .before .args in
-    obeyed (a .line .now) (length (a .outbox .now)) (c .before .enum-told3 .given .1) refl (record { session = c .unheard3 .ensures .0; heard = c .unheard3 .ensures .1; kept = refl })
+    let a = c .before .before .before .before .before .args in
+    obeyed (a .line .now) (length (a .outbox .now)) (c .before .enum-told3 .given .1) refl (record { tables = refl; still = c .unheard3 .ensures .0; heard = c .unheard3 .ensures .1; kept = refl })
 
 same-length : tie.Need-same-length
 same-length c = search needs
@@ -204,14 +204,14 @@ same-length c = search needs
 returns-4 : tie.Need-returns-4
 unfolding asked
 returns-4 c =
-    let a = c .before .before .before .before .before .before .before .before .before .before .before .args in
-    obeyed (a .line .now) (length (a .outbox .now)) (c .before .before .before .before .before .before .command .given .1) refl (called (c .before .before .before .new-link .ensures) (c .heard .ensures))
+    let a = c .before .before .before .before .before .before .before .before .before .before .before .before .before .before .before .args in
+    obeyed (a .line .now) (length (a .outbox .now)) (c .before .before .before .before .before .before .before .before .before .before .before .command .given .1) refl (called (c .before .before .before .new-link .ensures) (c .heard .ensures))
 
 returns-5 : tie.Need-returns-5
 unfolding asked
 returns-5 c =
-    let a = c .before .before .before .before .before .before .before .before .args in
-    obeyed (a .line .now) (length (a .outbox .now)) (c .before .before .before .command2 .given .1) refl (called (lent-none (a .outbox .now) (c .before .deleted-link .ensures)) (c .heard2 .ensures))
+    let a = c .before .before .before .before .before .before .before .before .before .before .args in
+    obeyed (a .line .now) (length (a .outbox .now)) (c .before .before .before .before .before .before .command2 .given .1) refl (called (lent-none (a .outbox .now) (c .before .deleted-link .ensures (a .searches .now) (a .texts .now))) (c .heard2 .ensures))
 
 same-length-2 : tie.Need-same-length-2
 same-length-2 c = search needs
@@ -219,14 +219,14 @@ same-length-2 c = search needs
 returns-6 : tie.Need-returns-6
 unfolding asked
 returns-6 c =
-    let a = c .before .before .before .before .before .before .before .before .before .before .before .args in
-    obeyed (a .line .now) (length (a .outbox .now)) (c .before .before .before .before .before .before .command3 .given .1) refl (called (c .before .before .before .new-address .ensures) (c .heard3 .ensures))
+    let a = c .before .before .before .before .before .before .before .before .before .before .before .before .before .before .before .args in
+    obeyed (a .line .now) (length (a .outbox .now)) (c .before .before .before .before .before .before .before .before .before .before .before .command3 .given .1) refl (called (c .before .before .before .new-address .ensures) (c .heard3 .ensures))
 
 returns-7 : tie.Need-returns-7
 unfolding asked
 returns-7 c =
-    let a = c .before .before .before .before .before .before .before .before .args in
-    obeyed (a .line .now) (length (a .outbox .now)) (c .before .before .before .command4 .given .1) refl (called (lent-none (a .outbox .now) (c .before .deleted-address .ensures)) (c .heard4 .ensures))
+    let a = c .before .before .before .before .before .before .before .before .before .before .args in
+    obeyed (a .line .now) (length (a .outbox .now)) (c .before .before .before .before .before .before .command4 .given .1) refl (called (lent-none (a .outbox .now) (c .before .deleted-address .ensures (a .searches .now) (a .texts .now))) (c .heard4 .ensures))
 
 same-length-3 : tie.Need-same-length-3
 same-length-3 c = search needs
@@ -234,8 +234,8 @@ same-length-3 c = search needs
 returns-8 : tie.Need-returns-8
 unfolding asked
 returns-8 c =
-    let a = c .before .before .before .before .before .before .before .before .before .before .before .before .args in
-    obeyed (a .line .now) (length (a .outbox .now)) (c .before .before .before .before .before .before .before .command5 .given .1) refl (called (as-call (c .before .before .before .subscribe .ensures) (ap (λ (x : List ℕ). Subscribe x (length (a .outbox .now))) (c .before .before .before .before .before .part-of .ensures))) (c .heard5 .ensures))
+    let a = c .before .before .before .before .before .before .before .before .before .before .before .before .before .before .before .args in
+    obeyed (a .line .now) (length (a .outbox .now)) (c .before .before .before .before .before .before .before .before .before .before .before .command5 .given .1) refl (called (as-call (c .before .before .before .subscribe .ensures (a .texts .now)) (ap (λ (x : List ℕ). Subscribe x (length (a .outbox .now))) (c .before .before .before .before .before .part-of .ensures))) (c .heard5 .ensures))
 
 same-length-4 : tie.Need-same-length-4
 same-length-4 c = search needs
@@ -243,8 +243,8 @@ same-length-4 c = search needs
 returns-9 : tie.Need-returns-9
 unfolding asked
 returns-9 c =
-    let a = c .before .before .before .before .before .before .before .before .before .before .before .args in
-    obeyed (a .line .now) (length (a .outbox .now)) (c .before .before .before .before .before .before .command6 .given .1) refl (called (c .before .before .before .advertise .ensures) (c .heard6 .ensures))
+    let a = c .before .before .before .before .before .before .before .before .before .before .before .before .before .before .args in
+    obeyed (a .line .now) (length (a .outbox .now)) (c .before .before .before .before .before .before .before .before .before .before .command6 .given .1) refl (called (c .before .before .before .advertise .ensures (a .searches .now)) (c .heard6 .ensures))
 
 same-length-5 : tie.Need-same-length-5
 same-length-5 c = search needs
@@ -252,8 +252,8 @@ same-length-5 c = search needs
 returns-10 : tie.Need-returns-10
 unfolding asked
 returns-10 c =
-    let a = c .before .before .before .before .before .before .before .before .before .before .before .before .args in
-    obeyed (a .line .now) (length (a .outbox .now)) (c .before .before .before .before .before .before .before .command7 .given .1) refl (called (as-call (c .before .before .before .deadvertise .ensures) (ap (λ (x : List ℕ). Deadvertise x (length (a .outbox .now))) (c .before .before .before .before .before .part-of2 .ensures))) (c .heard7 .ensures))
+    let a = c .before .before .before .before .before .before .before .before .before .before .before .before .before .before .before .args in
+    obeyed (a .line .now) (length (a .outbox .now)) (c .before .before .before .before .before .before .before .before .before .before .before .command7 .given .1) refl (called (as-call (c .before .before .before .deadvertise .ensures (a .searches .now)) (ap (λ (x : List ℕ). Deadvertise x (length (a .outbox .now))) (c .before .before .before .before .before .part-of2 .ensures))) (c .heard7 .ensures))
 
 same-length-6 : tie.Need-same-length-6
 same-length-6 c = search needs
@@ -261,14 +261,14 @@ same-length-6 c = search needs
 returns-11 : tie.Need-returns-11
 unfolding asked
 returns-11 c =
-    let a = c .before .before .before .before .before .before .before .before .before .before .args in
-    obeyed (a .line .now) (length (a .outbox .now)) (c .before .before .before .before .before .enum-told4 .given .1) refl (called (c .before .before .before .refresh .ensures) (c .heard8 .ensures))
+    let a = c .before .before .before .before .before .before .before .before .before .before .before .before .before .before .args in
+    obeyed (a .line .now) (length (a .outbox .now)) (c .before .before .before .before .before .before .before .before .before .before .enum-told4 .given .1) refl (called (c .before .before .before .refresh .ensures) (c .heard8 .ensures))
 
 returns-12 : tie.Need-returns-12
 unfolding asked
 returns-12 c =
-    let a = c .before .before .before .before .before .before .before .before .before .before .args in
-    obeyed (a .line .now) (length (a .outbox .now)) (c .before .before .before .before .before .command8 .given .1) refl (called (lent-none (a .outbox .now) (as-call (c .before .on-text .ensures) (same-datagram (c .before .before .before .at .ensures) (ap (λ (x : List ℕ). take datagramMax (datagram x)) (c .before .before .part-of3 .ensures))))) (c .heard9 .ensures))
+    let a = c .before .before .before .before .before .before .before .before .before .before .before .before .before .args in
+    obeyed (a .line .now) (length (a .outbox .now)) (c .before .before .before .before .before .before .before .before .before .command8 .given .1) refl (called (lent-none (a .outbox .now) (as-call (c .before .on-text .ensures (a .links .now)) (same-datagram (c .before .before .before .at .ensures) (ap (λ (x : List ℕ). take datagramMax (datagram x)) (c .before .before .part-of3 .ensures))))) (c .heard9 .ensures))
 
 same-length-7 : tie.Need-same-length-7
 same-length-7 c = search needs
@@ -276,20 +276,20 @@ same-length-7 c = search needs
 returns-13 : tie.Need-returns-13
 unfolding asked
 returns-13 c =
-    let a = c .before .before .before .before .before .before .before .before .before .before .before .args in
-    obeyed (a .line .now) (length (a .outbox .now)) (c .before .before .before .before .before .before .command9 .given .1) refl (called (c .before .before .before .handle-timeout .ensures) (c .heard10 .ensures))
+    let a = c .before .before .before .before .before .before .before .before .before .before .before .before .before .before .before .args in
+    obeyed (a .line .now) (length (a .outbox .now)) (c .before .before .before .before .before .before .before .before .before .before .before .command9 .given .1) refl (called (c .before .before .before .handle-timeout .ensures) (c .heard10 .ensures))
 
 returns-14 : tie.Need-returns-14
 unfolding asked
 returns-14 c =
-    let a = c .before .before .before .before .before .before .before .before .args in
-    obeyed (a .line .now) (length (a .outbox .now)) (c .before .before .before .command10 .given .1) refl (called (lent-none (a .outbox .now) (c .before .reset-refresh-timer .ensures)) (c .heard11 .ensures))
+    let a = c .before .before .before .before .before .before .before .before .before .args in
+    obeyed (a .line .now) (length (a .outbox .now)) (c .before .before .before .before .before .command10 .given .1) refl (called (lent-none (a .outbox .now) (c .before .reset-refresh-timer .ensures (a .links .now) (a .searches .now) (a .texts .now))) (c .heard11 .ensures))
 
 returns-15 : tie.Need-returns-15
 unfolding asked
 returns-15 c =
-    let a = c .before .before .before .before .before .before .before .before .before .before .args in
-    obeyed (a .line .now) (length (a .outbox .now)) (c .before .before .before .before .before .command11 .given .1) refl (called (lent-none (a .outbox .now) (as-call (c .before .on-bytes .ensures) (same-datagram (c .before .before .before .at2 .ensures) (ap (λ (x : List ℕ). take datagramMax (unhexed x)) (c .before .before .part-of4 .ensures))))) (c .heard12 .ensures))
+    let a = c .before .before .before .before .before .before .before .before .before .before .before .before .before .args in
+    obeyed (a .line .now) (length (a .outbox .now)) (c .before .before .before .before .before .before .before .before .before .command11 .given .1) refl (called (lent-none (a .outbox .now) (as-call (c .before .on-bytes .ensures (a .links .now)) (same-datagram (c .before .before .before .at2 .ensures) (ap (λ (x : List ℕ). take datagramMax (unhexed x)) (c .before .before .part-of4 .ensures))))) (c .heard12 .ensures))
 
 same-length-8 : tie.Need-same-length-8
 same-length-8 c = search needs
@@ -297,14 +297,14 @@ same-length-8 c = search needs
 returns-16 : tie.Need-returns-16
 unfolding asked
 returns-16 c =
-    let a = c .before .before .before .before .before .before .before .before .before .before .before .before .args in
-    obeyed (a .line .now) (length (a .outbox .now)) (c .before .before .before .before .before .before .before .command12 .given .1) refl (called (as-call (c .before .before .before .new-address-bytes .ensures) (same-new (ap (λ (x : List ℕ). take addressMax (unhexed x)) (c .before .before .before .before .before .part-of5 .ensures)))) (c .heard13 .ensures))
+    let a = c .before .before .before .before .before .before .before .before .before .before .before .before .before .before .before .before .args in
+    obeyed (a .line .now) (length (a .outbox .now)) (c .before .before .before .before .before .before .before .before .before .before .before .before .command12 .given .1) refl (called (as-call (c .before .before .before .new-address-bytes .ensures) (same-new (ap (λ (x : List ℕ). take addressMax (unhexed x)) (c .before .before .before .before .before .part-of5 .ensures)))) (c .heard13 .ensures))
 
 returns-17 : tie.Need-returns-17
 unfolding asked
 returns-17 c =
-    let a = c .before .before .before .before .before .before .before .before .before .args in
-    obeyed (a .line .now) (length (a .outbox .now)) (c .before .before .before .before .command13 .given .1) refl (called (lent-none (a .outbox .now) (as-call (c .before .deleted-address-bytes .ensures) (same-deleted (ap (λ (x : List ℕ). take addressMax (unhexed x)) (c .before .before .part-of6 .ensures))))) (c .heard14 .ensures))
+    let a = c .before .before .before .before .before .before .before .before .before .before .before .args in
+    obeyed (a .line .now) (length (a .outbox .now)) (c .before .before .before .before .before .before .before .command13 .given .1) refl (called (lent-none (a .outbox .now) (as-call (c .before .deleted-address-bytes .ensures (a .searches .now) (a .texts .now)) (same-deleted (ap (λ (x : List ℕ). take addressMax (unhexed x)) (c .before .before .part-of6 .ensures))))) (c .heard14 .ensures))
 
 pub obey-next-spec : {M : Type 1} → statement M
 obey-next-spec =

@@ -4,7 +4,7 @@ ghost use mathlib.Core.Path.{_≡_};
 ghost use mathlib.Core.Bool.{true};
 ghost use mathlib.Core.List.{List};
 ghost use Rattle.engine.specs.Calls.{Call};
-ghost use Rattle.engine.specs.Arrays.{Tables};
+ghost use Rattle.engine.specs.Arrays.{Engine};
 ghost use Rattle.engine.specs.Claim.{Log, Claim};
 ghost use Rattle.engine.specs.EveryList.{Word, Lent, Logged};
 ghost use Rattle.engine.specs.StarCases.{allHold, starCases};
@@ -14,7 +14,7 @@ ghost use Rattle.engine.proofs.Functions.{News, Gives};
 // Demand 3: it holds of every list of public calls, whatever their arguments, whose answers are what the functions' contracts give.
 // The claim itself is stated in engine/specs/Claim.antt.
 pub fn demand_three()
-    ensures { λ _. ⌜ ((seed time : ℕ) (calls : List Call) (answers : List Answer) (last : Tables) (log : Log News Gives seed time calls answers last) → Claim log) ⌝ }
+    ensures { λ _. ⌜ ((seed time : ℕ) (calls : List Call) (answers : List Answer) (last : Engine) (log : Log News Gives seed time calls answers last) → Claim log) ⌝ }
 {}
 
 // And it is about every list: each list of calls, whose numbers are in the range of their types, has a log, whatever outboxes are lent to them.

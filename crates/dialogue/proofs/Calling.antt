@@ -10,8 +10,8 @@ use Rattle.engine.specs.Calls.{Call, NewAddress, DeletedAddress, Advertise, Dat
 use Rattle.engine.specs.declared.advertisement.Endpoint.{Endpoint}
 use Rattle.engine.specs.Records.{Record}
 use Rattle.engine.specs.Layout.{layout, written}
-use Rattle.engine.specs.Arrays.{Tables}
-use Rattle.engine.specs.Promises.{Answering}
+use Rattle.engine.specs.Arrays.{Engine}
+use Rattle.engine.specs.Promises.{answered, Answers}
 use Rattle.engine.specs.declared.engine.Answer.{Answer}
 use Rattle.console.specs.declared.command.Command.{Command}
 use Rattle.console.specs.declared.command.Command.the-variants as line
@@ -19,8 +19,8 @@ use Rattle.dialogue.specs.Asking.{Asked, asked}
 use Rattle.dialogue.specs.Obeying.{Unheard, Called, Outcome, Obeys}
 use Rattle.dialogue.specs.declared.session.Reply.{Reply}
 
-pub as-call : {t t′ : Tables} {c c′ : Call} {o o′ : List ℕ} {r : Answer} → Answering t c o o′ t′ r → c ≡ c′ → Answering t c′ o o′ t′ r
-as-call {t} {t′} {c} {c′} {o} {o′} {r} a p = subst (λ (x : Call). Answering t x o o′ t′ r) p a
+pub as-call : {t t′ : Engine} {c c′ : Call} {o o′ : List ℕ} {r : Answer} → Answers t c o o′ (answered t′ r) → c ≡ c′ → Answers t c′ o o′ (answered t′ r)
+as-call {t} {t′} {c} {c′} {o} {o′} {r} a p = subst (λ (x : Call). Answers t x o o′ (answered t′ r)) p a
 
 pub same-texts : {a a′ b b′ c c′ : List ℕ} (room : ℕ) → a ≡ a′ → b ≡ b′ → c ≡ c′ → Advertise a b c room ≡ Advertise a′ b′ c′ room
 same-texts {a} {a′} {b} {b′} {c} {c′} room p q r =
@@ -49,29 +49,29 @@ unfolding written
 written-nothing rs o p = rw (nothing-in-front (layout rs) (drop (length (layout rs)) []) p)
 
 -- a call that is lent no outbox leaves any outbox as it is
-pub lent-none : {t t′ : Tables} {c : Call} {r : Answer} (o : List ℕ) → Answering t c [] [] t′ r → Answering t c o o t′ r
-lent-none o a = record { answer = a .answer; tables = a .tables; sent = written-nothing _ o (a .sent); untouched = a .untouched }
+pub lent-none : {t t′ : Engine} {c : Call} {r : Answer} (o : List ℕ) → Answers t c [] [] (answered t′ r) → Answers t c o o (answered t′ r)
+lent-none o a = record { answer = a .answer; engine = a .engine; sent = written-nothing _ o (a .sent); untouched = a .untouched }
 
 -- a call was made, and its answer is the reply's
-pub called : {t t′ : Tables} {c : Call} {o o′ : List ℕ} {a : Answer} {r : Reply} → Answering t c o o′ t′ a →
+pub called : {t t′ : Engine} {c : Call} {o o′ : List ℕ} {a : Answer} {r : Reply} → Answers t c o o′ (answered t′ a) →
     (r .begun ≡ true) × (r .heard ≡ true) × (r .answer ≡ a) → Called t c o o′ t′ r
 called a (begun, heard, answer) = record {
-  answers = record { answer = answer ∙ a .answer; tables = a .tables; sent = a .sent; untouched = a .untouched };
+  answers = record { answer = answer ∙ a .answer; engine = a .engine; sent = a .sent; untouched = a .untouched };
   begun = begun;
   heard = heard;
 }
 
 -- the command is this one, which asks this
-pub obeyed : (s : List ℕ) (room : ℕ) {k v : Command} {x : Asked} {b : Bool} {t t′ : Tables} {o o′ : List ℕ} {r : Reply} →
+pub obeyed : (s : List ℕ) (room : ℕ) {k v : Command} {x : Asked} {b : Bool} {t t′ : Engine} {o o′ : List ℕ} {r : Reply} →
     k ≡ v → asked s room v ≡ x → Outcome b x t o o′ t′ r → Obeys b (asked s room k) t o o′ t′ r
 obeyed s room {k} {v} {x} {b} {t} {t′} {o} {o′} {r} p q u = subst (λ (y : Asked). Obeys b y t o o′ t′ r) (sym q ∙ ap (asked s room) (sym p)) (record { outcome = u })
 
 -- an engine has begun, or not
-pub begun-as : {b b′ : Bool} {x : Asked} {t t′ : Tables} {o o′ : List ℕ} {r : Reply} → b ≡ b′ → Obeys b′ x t o o′ t′ r → Obeys b x t o o′ t′ r
+pub begun-as : {b b′ : Bool} {x : Asked} {t t′ : Engine} {o o′ : List ℕ} {r : Reply} → b ≡ b′ → Obeys b′ x t o o′ t′ r → Obeys b x t o o′ t′ r
 begun-as {b} {b′} {x} {t} {t′} {o} {o′} {r} p u = subst (λ (y : Bool). Obeys y x t o o′ t′ r) (sym p) u
 
 -- before an engine has begun only `new` is heard
-pub first-unheard : (k : Command) → ((seed time : ℕ) → k ≡ line.New seed time → ⊥) → (s : List ℕ) (room : ℕ) {t t′ : Tables} {o o′ : List ℕ} {r : Reply} →
+pub first-unheard : (k : Command) → ((seed time : ℕ) → k ≡ line.New seed time → ⊥) → (s : List ℕ) (room : ℕ) {t t′ : Engine} {o o′ : List ℕ} {r : Reply} →
     Unheard false t o o′ t′ r → Obeys false (asked s room k) t o o′ t′ r
 unfolding asked
 first-unheard line.Unreadable neither s room u = record { outcome = u }

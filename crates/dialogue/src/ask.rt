@@ -20,8 +20,8 @@ ghost use Rattle.console.specs.Datagram.{datagram};
 ghost use Rattle.console.specs.Hexadecimal.{unhexed};
 ghost use Rattle.engine.specs.Layout.{bigEndian4};
 ghost use Rattle.engine.specs.Calls.{NewAddress, DeletedAddress, Advertise, Datagram};
-ghost use Rattle.engine.specs.Arrays.{tables};
-ghost use Rattle.engine.specs.Promises.{Answering};
+ghost use Rattle.engine.specs.Arrays.{engine};
+ghost use Rattle.engine.specs.Promises.{answered, Answers};
 ghost use Rattle.dialogue.specs.Asking.{datagramMax, addressMax, partOf};
 
 // Room for the longest datagram of a line: each of its bytes may stand for two.
@@ -61,7 +61,7 @@ pub(crate) fn new_address(
     address: u32,
     outbox: &mut [u8],
 ) -> Answer
-    ensures { λ r. ⌜ Answering (tables (now (head .entry)) (now (links .entry)) (now (searches .entry)) (now (numbers .entry)) (now (texts .entry))) (NewAddress index (bigEndian4 address) (length (now (outbox .entry)))) (now (outbox .entry)) (now (outbox .exit)) (tables (now (head .exit)) (now (links .exit)) (now (searches .entry)) (now (numbers .entry)) (now (texts .entry))) r ⌝ }
+    ensures { λ r. ⌜ Answers (engine (now (head .entry)) (now (links .entry)) (now (searches .entry)) (now (numbers .entry)) (now (texts .entry))) (NewAddress index (bigEndian4 address) (length (now (outbox .entry)))) (now (outbox .entry)) (now (outbox .exit)) (answered (engine (now (head .exit)) (now (links .exit)) (now (searches .entry)) (now (numbers .entry)) (now (texts .entry))) r) ⌝ }
 {
     let octets = octets_of(address);
     calls::new_address(
@@ -84,7 +84,7 @@ pub(crate) fn deleted_address(
     index: u32,
     address: u32,
 ) -> Answer
-    ensures { λ r. ⌜ ((searches texts : List ℕ) → Answering (tables (now (head .entry)) (now (links .entry)) searches (now (numbers .entry)) texts) (DeletedAddress index (bigEndian4 address)) [] [] (tables (now (head .exit)) (now (links .exit)) searches (now (numbers .entry)) texts) r) ⌝ }
+    ensures { λ r. ⌜ ((searches texts : List ℕ) → Answers (engine (now (head .entry)) (now (links .entry)) searches (now (numbers .entry)) texts) (DeletedAddress index (bigEndian4 address)) [] [] (answered (engine (now (head .exit)) (now (links .exit)) searches (now (numbers .entry)) texts) r)) ⌝ }
 {
     let octets = octets_of(address);
     calls::deleted_address(head, links, numbers, index, &octets)
@@ -101,7 +101,7 @@ pub(crate) fn new_address_bytes(
     digits: &[u8],
     outbox: &mut [u8],
 ) -> Answer
-    ensures { λ r. ⌜ Answering (tables (now (head .entry)) (now (links .entry)) (now (searches .entry)) (now (numbers .entry)) (now (texts .entry))) (NewAddress index (take addressMax (unhexed (now (digits .entry)))) (length (now (outbox .entry)))) (now (outbox .entry)) (now (outbox .exit)) (tables (now (head .exit)) (now (links .exit)) (now (searches .entry)) (now (numbers .entry)) (now (texts .entry))) r ⌝ }
+    ensures { λ r. ⌜ Answers (engine (now (head .entry)) (now (links .entry)) (now (searches .entry)) (now (numbers .entry)) (now (texts .entry))) (NewAddress index (take addressMax (unhexed (now (digits .entry)))) (length (now (outbox .entry)))) (now (outbox .entry)) (now (outbox .exit)) (answered (engine (now (head .exit)) (now (links .exit)) (now (searches .entry)) (now (numbers .entry)) (now (texts .entry))) r) ⌝ }
 {
     let mut bytes = no_address();
     let n = hexadecimal::write_unhexed(&mut bytes, digits);
@@ -125,7 +125,7 @@ pub(crate) fn deleted_address_bytes(
     index: u32,
     digits: &[u8],
 ) -> Answer
-    ensures { λ r. ⌜ ((searches texts : List ℕ) → Answering (tables (now (head .entry)) (now (links .entry)) searches (now (numbers .entry)) texts) (DeletedAddress index (take addressMax (unhexed (now (digits .entry))))) [] [] (tables (now (head .exit)) (now (links .exit)) searches (now (numbers .entry)) texts) r) ⌝ }
+    ensures { λ r. ⌜ ((searches texts : List ℕ) → Answers (engine (now (head .entry)) (now (links .entry)) searches (now (numbers .entry)) texts) (DeletedAddress index (take addressMax (unhexed (now (digits .entry))))) [] [] (answered (engine (now (head .exit)) (now (links .exit)) searches (now (numbers .entry)) texts) r)) ⌝ }
 {
     let mut bytes = no_address();
     let n = hexadecimal::write_unhexed(&mut bytes, digits);
@@ -143,7 +143,7 @@ pub(crate) fn on_text(
     receiver: u32,
     text: &[u8],
 ) -> Answer
-    ensures { λ r. ⌜ ((links : List ℕ) → Answering (tables (now (head .entry)) links (now (searches .entry)) (now (numbers .entry)) (now (texts .entry))) (Datagram time sender receiver (take datagramMax (datagram (now (text .entry))))) [] [] (tables (now (head .entry)) links (now (searches .entry)) (now (numbers .exit)) (now (texts .exit))) r) ⌝ }
+    ensures { λ r. ⌜ ((links : List ℕ) → Answers (engine (now (head .entry)) links (now (searches .entry)) (now (numbers .entry)) (now (texts .entry))) (Datagram time sender receiver (take datagramMax (datagram (now (text .entry))))) [] [] (answered (engine (now (head .entry)) links (now (searches .entry)) (now (numbers .exit)) (now (texts .exit))) r)) ⌝ }
 {
     let mut bytes = no_datagram();
     let n = datagram::write_datagram(&mut bytes, text);
@@ -170,7 +170,7 @@ pub(crate) fn on_bytes(
     receiver: u32,
     digits: &[u8],
 ) -> Answer
-    ensures { λ r. ⌜ ((links : List ℕ) → Answering (tables (now (head .entry)) links (now (searches .entry)) (now (numbers .entry)) (now (texts .entry))) (Datagram time sender receiver (take datagramMax (unhexed (now (digits .entry))))) [] [] (tables (now (head .entry)) links (now (searches .entry)) (now (numbers .exit)) (now (texts .exit))) r) ⌝ }
+    ensures { λ r. ⌜ ((links : List ℕ) → Answers (engine (now (head .entry)) links (now (searches .entry)) (now (numbers .entry)) (now (texts .entry))) (Datagram time sender receiver (take datagramMax (unhexed (now (digits .entry))))) [] [] (answered (engine (now (head .entry)) links (now (searches .entry)) (now (numbers .exit)) (now (texts .exit))) r)) ⌝ }
 {
     let mut bytes = no_datagram();
     let n = hexadecimal::write_unhexed(&mut bytes, digits);
@@ -198,7 +198,7 @@ pub(crate) fn advertise(
     location: Place,
     outbox: &mut [u8],
 ) -> Answer
-    ensures { λ r. ⌜ ((searches : List ℕ) → Answering (tables (now (head .entry)) (now (links .entry)) searches (now (numbers .entry)) (now (texts .entry))) (Advertise (partOf (now (line .entry)) name) (partOf (now (line .entry)) kind) (partOf (now (line .entry)) location) (length (now (outbox .entry)))) (now (outbox .entry)) (now (outbox .exit)) (tables (now (head .exit)) (now (links .entry)) searches (now (numbers .exit)) (now (texts .exit))) r) ⌝ }
+    ensures { λ r. ⌜ ((searches : List ℕ) → Answers (engine (now (head .entry)) (now (links .entry)) searches (now (numbers .entry)) (now (texts .entry))) (Advertise (partOf (now (line .entry)) name) (partOf (now (line .entry)) kind) (partOf (now (line .entry)) location) (length (now (outbox .entry)))) (now (outbox .entry)) (now (outbox .exit)) (answered (engine (now (head .exit)) (now (links .entry)) searches (now (numbers .exit)) (now (texts .exit))) r)) ⌝ }
 {
     calls::advertise(
         head,

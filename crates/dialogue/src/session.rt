@@ -15,7 +15,7 @@ ghost use mathlib.Core.Bool.{true, false};
 ghost use mathlib.Core.List.{List, []};
 ghost use Prim.Native.Nat.{ℕ};
 ghost use lib.ListN.{length};
-ghost use Rattle.engine.specs.Arrays.{tables};
+ghost use Rattle.engine.specs.Arrays.{engine};
 ghost use Rattle.dialogue.specs.Asking.{asked};
 ghost use Rattle.dialogue.specs.Obeying.{Begun, Obeys};
 
@@ -67,7 +67,7 @@ fn heard(answer: Answer, begun: bool) -> Reply
 
 // The engine begins, if its `new` is accepted.
 fn begin(head: &mut Head, numbers: &Numbers, seed: u32, time: u64) -> Reply
-    ensures { λ r. ⌜ ((links searches texts : List ℕ) → Begun seed time [] [] (tables (now (head .exit)) links searches (now (numbers .entry)) texts) r) ⌝ }
+    ensures { λ r. ⌜ ((links searches texts : List ℕ) → Begun seed time [] [] (engine (now (head .exit)) links searches (now (numbers .entry)) texts) r) ⌝ }
 {
     let answer = calls::new(head, numbers, seed, time);
     heard(answer, answer.refusal == 0)
@@ -75,7 +75,7 @@ fn begin(head: &mut Head, numbers: &Numbers, seed: u32, time: u64) -> Reply
 
 // A line before an accepted `new`.
 fn obey_first(head: &mut Head, numbers: &Numbers, command: Command) -> Reply
-    ensures { λ r. ⌜ ((links searches texts line outbox : List ℕ) → Obeys false (asked line (length outbox) command) (tables (now (head .entry)) links searches (now (numbers .entry)) texts) outbox outbox (tables (now (head .exit)) links searches (now (numbers .entry)) texts) r) ⌝ }
+    ensures { λ r. ⌜ ((links searches texts line outbox : List ℕ) → Obeys false (asked line (length outbox) command) (engine (now (head .entry)) links searches (now (numbers .entry)) texts) outbox outbox (engine (now (head .exit)) links searches (now (numbers .entry)) texts) r) ⌝ }
 {
     let Command::New(seed, time) = command else {
         return unheard(false);
@@ -104,7 +104,7 @@ fn obey_next(
     command: Command,
     outbox: &mut [u8],
 ) -> Reply
-    ensures { λ r. ⌜ Obeys true (asked (now (line .entry)) (length (now (outbox .entry))) command) (tables (now (head .entry)) (now (links .entry)) (now (searches .entry)) (now (numbers .entry)) (now (texts .entry))) (now (outbox .entry)) (now (outbox .exit)) (tables (now (head .exit)) (now (links .exit)) (now (searches .exit)) (now (numbers .exit)) (now (texts .exit))) r ⌝ }
+    ensures { λ r. ⌜ Obeys true (asked (now (line .entry)) (length (now (outbox .entry))) command) (engine (now (head .entry)) (now (links .entry)) (now (searches .entry)) (now (numbers .entry)) (now (texts .entry))) (now (outbox .entry)) (now (outbox .exit)) (engine (now (head .exit)) (now (links .exit)) (now (searches .exit)) (now (numbers .exit)) (now (texts .exit))) r ⌝ }
 {
     match command {
         Command::Unreadable => unheard(true),
@@ -234,7 +234,7 @@ pub fn obey(
     command: Command,
     outbox: &mut [u8],
 ) -> Reply
-    ensures { λ r. ⌜ Obeys begun (asked (now (line .entry)) (length (now (outbox .entry))) command) (tables (now (head .entry)) (now (links .entry)) (now (searches .entry)) (now (numbers .entry)) (now (texts .entry))) (now (outbox .entry)) (now (outbox .exit)) (tables (now (head .exit)) (now (links .exit)) (now (searches .exit)) (now (numbers .exit)) (now (texts .exit))) r ⌝ }
+    ensures { λ r. ⌜ Obeys begun (asked (now (line .entry)) (length (now (outbox .entry))) command) (engine (now (head .entry)) (now (links .entry)) (now (searches .entry)) (now (numbers .entry)) (now (texts .entry))) (now (outbox .entry)) (now (outbox .exit)) (engine (now (head .exit)) (now (links .exit)) (now (searches .exit)) (now (numbers .exit)) (now (texts .exit))) r ⌝ }
 {
     if begun {
         return obey_next(head, links, searches, numbers, texts, line, command, outbox);

@@ -28,11 +28,6 @@ module _ (x : ℕ) where
 
 -- ---- what the place tells
 module _ (x : ℕ) where
-  pub place-le : (l : List ℕ) → placeOf x l ≤ length l
-  unfolding placeOf
-  place-le [] = omega arith
-  place-le (a ∷ l) = on (λ b. cond b 0 (suc (placeOf x l)) ≤ suc (length l)) (omega arith) (omega (arith, place-le l)) (eqb a x)
-
   pub contains-place : (l : List ℕ) → contains x l ≡ ltb (placeOf x l) (length l)
   unfolding placeOf contains
   contains-place [] = sym (le-ltb 0 0 (omega arith))

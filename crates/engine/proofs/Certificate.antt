@@ -4,7 +4,7 @@ use mathlib.Core.List.{List}
 use Rattle.engine.specs.Calls.{Call}
 use Rattle.engine.specs.Claim.{Log, Claim}
 use Rattle.engine.specs.EveryList.{Word, Lent, Logged}
-use Rattle.engine.specs.Arrays.{Tables as Engine}
+use Rattle.engine.specs.Arrays.{Engine}
 use Rattle.engine.specs.declared.engine.Answer.{Answer}
 use Rattle.engine.proofs.Functions.{News, Gives, functions-claim, functions-logged}
 use Rattle.engine.proofs.calls.new.Statement as new

@@ -9,10 +9,8 @@ use lib.ListN.{length, take, length-append, length-map, length-take}
 use Rattle.text.specs.Bytes.{equal}
 use Rattle.engine.specs.Sizes.{recordsMax, advertisementsMax, subscriptionsMax, addressesMax, sourcesMax}
 use Rattle.engine.specs.Target.{ssdpAll}
-use Rattle.engine.specs.Held.{Text, Advertisement, advertisementOf, advertisementsOf, kindOf, subscriptionsOf}
+use Rattle.engine.specs.Held.{Text, Advertisement}
 use Rattle.engine.specs.Records.{SearchFrom, flat, anyAll, searchesOf, notify, notifyOn, searchOn, refreshOn, allFrom, isDue, replyRecords, dueRecords, timeoutOn}
-use Rattle.engine.specs.declared.advertisement.Advertisements.{Advertisements}
-use Rattle.engine.specs.declared.subscription.ActiveSearches.{ActiveSearches}
 use Rattle.engine.specs.declared.advertisement.ResponseNeeded.{ResponseNeeded}
 use Rattle.engine.specs.declared.advertisement.ResponseNeeded.the-variants.{None, Multicast, Unicast}
 use Rattle.engine.proofs.Flat.{flat-each, flat-most}
@@ -23,14 +21,6 @@ taken-most l n e = omega (arith, length-take n l)
 
 pub mapped-most : {A B : Type 0} (f : A → B) (l : List A) (n : ℕ) {c : ℕ} → length l ≡ c → length (map f (take n l)) ≤ c
 mapped-most f l n e = omega (arith, length-map (take n l) f, length-take n l)
-
-pub advertisements-most : (t : Advertisements) → length (t .slots) ≡ advertisementsMax → length (advertisementsOf t) ≤ advertisementsMax
-unfolding advertisementsOf
-advertisements-most t e = mapped-most advertisementOf (t .slots) (t .count) e
-
-pub subscriptions-most : (t : ActiveSearches) → length (t .slots) ≡ subscriptionsMax → length (subscriptionsOf t) ≤ subscriptionsMax
-unfolding subscriptionsOf
-subscriptions-most t e = mapped-most kindOf (t .slots) (t .count) e
 
 -- the searches of a refresh are no more than the subscriptions
 pub searches-most : (ts : List Text) → length (searchesOf ts) ≤ length ts

@@ -16,7 +16,7 @@ use Rattle.engine.specs.Records.{Record, isDue, refreshRecords, salvoDue
 use Rattle.engine.specs.Replies.{sumOf, waiting, servedNeed, served, result, results}
 use Rattle.engine.specs.Refusals.{late, newRefusal}
 use Rattle.engine.specs.Engine.{turned, Step, accepted, unless, step, newStep}
-use Rattle.engine.specs.Arrays.{Tables as Engine, heldIn as held}
+use Rattle.engine.specs.Arrays.{Engine, held}
 use Rattle.engine.specs.Promises.{Answered, Answers, Begins}
 use Rattle.engine.specs.Ledger.{Wait, Name, waitsIn, Ledger, entry, ledgerOf, sumsOf, ledgerRecords}
 use Rattle.engine.specs.Claim.{Log, new, call, countsOf, total, lastWaiting, After, timeoutRecords, Lone, Serves, Exact, Every, Claim}
@@ -74,7 +74,7 @@ begun-agree seed time = record { context = refl; table = no-rows }
 state-new : (seed time : ℕ) (r : Answered) → Begins seed time r → State seed time [] (r .answer ∷ []) (r .engine)
 unfolding total lastWaiting
 state-new seed time r b =
-    let e : held (r .engine) ≡ begun seed time = b .tables ∙ new-after seed time in
+    let e : held (r .engine) ≡ begun seed time = b .engine ∙ new-after seed time in
     let c : SameCounts (countsOf (r .answer)) (sumsOf seed time []) = rw (b .answer) (new-counts seed time) in
     record {
       agree = rw e (begun-agree seed time);
@@ -95,7 +95,7 @@ unfolding ledgerOf
 next seed time cs c e r a d =
     let m = step-same c (held e) (ledgerOf seed time cs) a in
     record {
-      agree = rw (d .tables) (m .agree);
+      agree = rw (d .engine) (m .agree);
       counts = rw (d .answer) (m .counts);
       waiting = ap (λ (x : Answer). x .waiting) (d .answer) ∙ m .waiting;
     }
@@ -176,7 +176,7 @@ serves laws seed time cs now room e r d a z =
     sym (step-refusal (held e) (Timeout now room)) ∙ sym (ap (λ (x : Answer). x .refusal) (d .answer)) ∙ z in
     let s = step-accepted (held e) (Timeout now room) k in
     let f : held (r .engine) .advertisements ≡ map (served now) (held e .advertisements) =
-    ap (λ (h : Held). h .advertisements) (d .tables) ∙ ap (λ (x : Step). x .after .advertisements) s ∙ accepted-timeout now room (held e) in
+    ap (λ (h : Held). h .advertisements) (d .engine) ∙ ap (λ (x : Step). x .after .advertisements) s ∙ accepted-timeout now room (held e) in
     record {
       none-due = each-at (rw f (all-after now (held e .advertisements)));
       records = ap (λ (x : Step). x .sent) s ∙ sent-same now room (held e) (ledgerOf seed time cs) a;
@@ -214,7 +214,7 @@ module _ (laws : Laws) {New : ℕ → ℕ → Answered → Type 0} {Gives : Engi
       let n = next seed time cs c e r (s .agree) d in
       record {
         agree = n .agree;
-        reachable = rw (d .tables) (reachable-step laws (held e) c (s .reachable));
+        reachable = rw (d .engine) (reachable-step laws (held e) c (s .reachable));
         sums = plus-same (n .counts) (s .sums);
         waiting = n .waiting;
       }

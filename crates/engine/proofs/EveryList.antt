@@ -1,5 +1,5 @@
 -- The claim is about every list: each list of calls whose numbers are in the range of their types has its log, with any outboxes of the lengths that the calls bear.
--- Behind each call the arrays are those that `tablesOf` makes of what is held: so an array that a call does not change is the one that came. A call that is not lent
+-- Behind each call the arrays are those that `engineOf` makes of what is held: so an array that a call does not change is the one that came. A call that is not lent
 -- an array answers the same whatever stands there; that is what `Given` asks for of a set of functions, and the functions' contracts give it.
 use mathlib.Core.Path.{_≡_, refl, sym, _∙_, ap, subst}
 use mathlib.Core.List.{List, [], _∷_, map}
@@ -17,63 +17,63 @@ use Rattle.engine.specs.Layout.{layout, written}
 use Rattle.engine.specs.Replies.{sumOf, waits, waiting, sooner, soonest, served, result, results}
 use Rattle.engine.specs.Refusals.{checks, refusal, newRefusal}
 use Rattle.engine.specs.Engine.{namesOf, turned, poll, Told, tells, Step, answerWith, refusedBy, accepted, unless, step, newStep}
-use Rattle.engine.specs.Arrays.{numbersWidth, textsWidth, linkRows, searchRows, replyIn, entryIn, entries, Tables, tables, heldIn}
-use Rattle.engine.specs.Promises.{Answering, Beginning, Answered, answered}
+use Rattle.engine.specs.Arrays.{numbersWidth, textsWidth, linkRows, searchRows, replyIn, entryIn, entries, Engine, engine, held}
+use Rattle.engine.specs.Promises.{Answers, Begins, Answered, answered}
 use Rattle.engine.specs.Claim.{Log, new, call}
 use Rattle.engine.specs.EveryList.{Word, SenderFits, InRange, Lends, Lent, outboxesOf, SizedIn, Logged}
 use Rattle.engine.specs.declared.advertisement.Endpoint.{Endpoint}
 use Rattle.engine.specs.declared.engine.Answer.{Answer}
-use Rattle.engine.proofs.Storing.{Fits, headOf, linkArray, searchArray, numberArray, textArray, tablesOf, head-back, links-back, searches-back, names-back, held-back, all-sized, texts-kept}
+use Rattle.engine.proofs.Storing.{Fits, headOf, linkArray, searchArray, numberArray, textArray, engineOf, head-back, links-back, searches-back, names-back, held-back, all-sized, texts-kept}
 use Rattle.engine.proofs.Ranges.{fits-fresh, fits-accepted}
 
 -- ---- what a set of functions gives: each call, on any contents of the arrays that are lent to it, whenever its contract is met
-pub record Given (New : ℕ → ℕ → Answered → Type 0) (Gives : Tables → Call → List ℕ → List ℕ → Answered → Type 0) : Type 0 where
+pub record Given (New : ℕ → ℕ → Answered → Type 0) (Gives : Engine → Call → List ℕ → List ℕ → Answered → Type 0) : Type 0 where
   pub by-new : (seed time : ℕ) (head′ numbers : List ℕ) (r : Answer) →
-      ((links searches texts : List ℕ) → Beginning seed time (tables head′ links searches numbers texts) r) →
-      (links searches texts : List ℕ) → New seed time (answered (tables head′ links searches numbers texts) r)
+      ((links searches texts : List ℕ) → Begins seed time (answered (engine head′ links searches numbers texts) r)) →
+      (links searches texts : List ℕ) → New seed time (answered (engine head′ links searches numbers texts) r)
   pub by-new-link : (head head′ links links′ searches numbers texts : List ℕ) (index flags outcome : ℕ) (o o′ : List ℕ) (r : Answer) →
-      Answering (tables head links searches numbers texts) (NewLink index flags outcome (length o)) o o′ (tables head′ links′ searches numbers texts) r →
-      Gives (tables head links searches numbers texts) (NewLink index flags outcome (length o)) o o′ (answered (tables head′ links′ searches numbers texts) r)
+      Answers (engine head links searches numbers texts) (NewLink index flags outcome (length o)) o o′ (answered (engine head′ links′ searches numbers texts) r) →
+      Gives (engine head links searches numbers texts) (NewLink index flags outcome (length o)) o o′ (answered (engine head′ links′ searches numbers texts) r)
   pub by-deleted-link : (head head′ links links′ numbers : List ℕ) (index outcome : ℕ) (r : Answer) →
-      ((searches texts : List ℕ) → Answering (tables head links searches numbers texts) (DeletedLink index outcome) [] [] (tables head′ links′ searches numbers texts) r) →
-      (searches texts : List ℕ) → Gives (tables head links searches numbers texts) (DeletedLink index outcome) [] [] (answered (tables head′ links′ searches numbers texts) r)
+      ((searches texts : List ℕ) → Answers (engine head links searches numbers texts) (DeletedLink index outcome) [] [] (answered (engine head′ links′ searches numbers texts) r)) →
+      (searches texts : List ℕ) → Gives (engine head links searches numbers texts) (DeletedLink index outcome) [] [] (answered (engine head′ links′ searches numbers texts) r)
   pub by-new-address : (head head′ links links′ searches numbers texts : List ℕ) (index : ℕ) (a o o′ : List ℕ) (r : Answer) →
-      Answering (tables head links searches numbers texts) (NewAddress index a (length o)) o o′ (tables head′ links′ searches numbers texts) r →
-      Gives (tables head links searches numbers texts) (NewAddress index a (length o)) o o′ (answered (tables head′ links′ searches numbers texts) r)
+      Answers (engine head links searches numbers texts) (NewAddress index a (length o)) o o′ (answered (engine head′ links′ searches numbers texts) r) →
+      Gives (engine head links searches numbers texts) (NewAddress index a (length o)) o o′ (answered (engine head′ links′ searches numbers texts) r)
   pub by-deleted-address : (head head′ links links′ numbers : List ℕ) (index : ℕ) (a : List ℕ) (r : Answer) →
-      ((searches texts : List ℕ) → Answering (tables head links searches numbers texts) (DeletedAddress index a) [] [] (tables head′ links′ searches numbers texts) r) →
-      (searches texts : List ℕ) → Gives (tables head links searches numbers texts) (DeletedAddress index a) [] [] (answered (tables head′ links′ searches numbers texts) r)
+      ((searches texts : List ℕ) → Answers (engine head links searches numbers texts) (DeletedAddress index a) [] [] (answered (engine head′ links′ searches numbers texts) r)) →
+      (searches texts : List ℕ) → Gives (engine head links searches numbers texts) (DeletedAddress index a) [] [] (answered (engine head′ links′ searches numbers texts) r)
   pub by-subscribe : (head head′ links searches searches′ numbers : List ℕ) (kind o o′ : List ℕ) (r : Answer) →
-      ((texts : List ℕ) → Answering (tables head links searches numbers texts) (Subscribe kind (length o)) o o′ (tables head′ links searches′ numbers texts) r) →
-      (texts : List ℕ) → Gives (tables head links searches numbers texts) (Subscribe kind (length o)) o o′ (answered (tables head′ links searches′ numbers texts) r)
+      ((texts : List ℕ) → Answers (engine head links searches numbers texts) (Subscribe kind (length o)) o o′ (answered (engine head′ links searches′ numbers texts) r)) →
+      (texts : List ℕ) → Gives (engine head links searches numbers texts) (Subscribe kind (length o)) o o′ (answered (engine head′ links searches′ numbers texts) r)
   pub by-advertise : (head head′ links numbers numbers′ texts texts′ : List ℕ) (name kind location o o′ : List ℕ) (r : Answer) →
-      ((searches : List ℕ) → Answering (tables head links searches numbers texts) (Advertise name kind location (length o)) o o′ (tables head′ links searches numbers′ texts′) r) →
+      ((searches : List ℕ) → Answers (engine head links searches numbers texts) (Advertise name kind location (length o)) o o′ (answered (engine head′ links searches numbers′ texts′) r)) →
       (searches : List ℕ) →
-      Gives (tables head links searches numbers texts) (Advertise name kind location (length o)) o o′ (answered (tables head′ links searches numbers′ texts′) r)
+      Gives (engine head links searches numbers texts) (Advertise name kind location (length o)) o o′ (answered (engine head′ links searches numbers′ texts′) r)
   pub by-deadvertise : (head head′ links numbers numbers′ texts texts′ : List ℕ) (name o o′ : List ℕ) (r : Answer) →
-      ((searches : List ℕ) → Answering (tables head links searches numbers texts) (Deadvertise name (length o)) o o′ (tables head′ links searches numbers′ texts′) r) →
-      (searches : List ℕ) → Gives (tables head links searches numbers texts) (Deadvertise name (length o)) o o′ (answered (tables head′ links searches numbers′ texts′) r)
+      ((searches : List ℕ) → Answers (engine head links searches numbers texts) (Deadvertise name (length o)) o o′ (answered (engine head′ links searches numbers′ texts′) r)) →
+      (searches : List ℕ) → Gives (engine head links searches numbers texts) (Deadvertise name (length o)) o o′ (answered (engine head′ links searches numbers′ texts′) r)
   pub by-refresh : (head links searches numbers texts : List ℕ) (o o′ : List ℕ) (r : Answer) →
-      Answering (tables head links searches numbers texts) (Refresh (length o)) o o′ (tables head links searches numbers texts) r →
-      Gives (tables head links searches numbers texts) (Refresh (length o)) o o′ (answered (tables head links searches numbers texts) r)
+      Answers (engine head links searches numbers texts) (Refresh (length o)) o o′ (answered (engine head links searches numbers texts) r) →
+      Gives (engine head links searches numbers texts) (Refresh (length o)) o o′ (answered (engine head links searches numbers texts) r)
   pub by-on-data : (head searches numbers numbers′ texts texts′ : List ℕ) (time : ℕ) (sender : Endpoint) (receiver : ℕ) (d : List ℕ) (r : Answer) →
-      ((links : List ℕ) → Answering (tables head links searches numbers texts) (Datagram time sender receiver d) [] [] (tables head links searches numbers′ texts′) r) →
-      (links : List ℕ) → Gives (tables head links searches numbers texts) (Datagram time sender receiver d) [] [] (answered (tables head links searches numbers′ texts′) r)
+      ((links : List ℕ) → Answers (engine head links searches numbers texts) (Datagram time sender receiver d) [] [] (answered (engine head links searches numbers′ texts′) r)) →
+      (links : List ℕ) → Gives (engine head links searches numbers texts) (Datagram time sender receiver d) [] [] (answered (engine head links searches numbers′ texts′) r)
   pub by-handle-timeout : (head head′ links searches numbers numbers′ texts : List ℕ) (time : ℕ) (o o′ : List ℕ) (r : Answer) →
-      Answering (tables head links searches numbers texts) (Timeout time (length o)) o o′ (tables head′ links searches numbers′ texts) r →
-      Gives (tables head links searches numbers texts) (Timeout time (length o)) o o′ (answered (tables head′ links searches numbers′ texts) r)
+      Answers (engine head links searches numbers texts) (Timeout time (length o)) o o′ (answered (engine head′ links searches numbers′ texts) r) →
+      Gives (engine head links searches numbers texts) (Timeout time (length o)) o o′ (answered (engine head′ links searches numbers′ texts) r)
   pub by-reset : (head head′ numbers : List ℕ) (time : ℕ) (r : Answer) →
-      ((links searches texts : List ℕ) → Answering (tables head links searches numbers texts) (ResetTimer time) [] [] (tables head′ links searches numbers texts) r) →
-      (links searches texts : List ℕ) → Gives (tables head links searches numbers texts) (ResetTimer time) [] [] (answered (tables head′ links searches numbers texts) r)
+      ((links searches texts : List ℕ) → Answers (engine head links searches numbers texts) (ResetTimer time) [] [] (answered (engine head′ links searches numbers texts) r)) →
+      (links searches texts : List ℕ) → Gives (engine head links searches numbers texts) (ResetTimer time) [] [] (answered (engine head′ links searches numbers texts) r)
 
 -- ---- arrays that hold g before a call and what it leaves after it
-answering : (t t′ : Tables) (g : Held) (c : Call) (s : Step) {outbox outbox′ : List ℕ} {r : Answer} → heldIn t ≡ g → step g c ≡ s → heldIn t′ ≡ s .after → r ≡ s .answer →
-    outbox′ ≡ written (s .sent) outbox → ((turned g c ≡ 0 → ⊥) → t′ ≡ t) → Answering t c outbox outbox′ t′ r
+answering : (t t′ : Engine) (g : Held) (c : Call) (s : Step) {outbox outbox′ : List ℕ} {r : Answer} → held t ≡ g → step g c ≡ s → held t′ ≡ s .after → r ≡ s .answer →
+    outbox′ ≡ written (s .sent) outbox → ((turned g c ≡ 0 → ⊥) → t′ ≡ t) → Answers t c outbox outbox′ (answered t′ r)
 answering t t′ g c s {outbox} e p a r o u =
-    let q : step (heldIn t) c ≡ s = ap (λ (h : Held). step h c) e ∙ p in
+    let q : step (held t) c ≡ s = ap (λ (h : Held). step h c) e ∙ p in
     record {
       answer = r ∙ sym (ap (λ (x : Step). x .answer) q);
-      tables = a ∙ sym (ap (λ (x : Step). x .after) q);
+      engine = a ∙ sym (ap (λ (x : Step). x .after) q);
       sent = o ∙ sym (ap (λ (x : Step). written (x .sent) outbox) q);
       untouched = λ n. u (λ z. n (ap (λ (h : Held). turned h c) e ∙ z));
     }
@@ -87,12 +87,12 @@ unfolding written layout flat
 nothing-sent outbox = refl
 
 -- refused: the very arrays
-refusing : (t : Tables) (g : Held) (c : Call) (k : ℕ) {outbox : List ℕ} {r : Answer} → heldIn t ≡ g → turned g c ≡ suc k → r ≡ refusedBy (suc k) g .answer → Answering t c outbox outbox t r
+refusing : (t : Engine) (g : Held) (c : Call) (k : ℕ) {outbox : List ℕ} {r : Answer} → held t ≡ g → turned g c ≡ suc k → r ≡ refusedBy (suc k) g .answer → Answers t c outbox outbox (answered t r)
 refusing t g c k {outbox} e p r = answering t t g c (refusedBy (suc k) g) e (step-is g c (suc k) p) e r (nothing-sent outbox) (λ _. refl)
 
 -- accepted
-accepting : (t t′ : Tables) (g : Held) (c : Call) {outbox outbox′ : List ℕ} {r : Answer} → heldIn t ≡ g → turned g c ≡ 0 → heldIn t′ ≡ accepted g c .after → r ≡ accepted g c .answer →
-    outbox′ ≡ written (accepted g c .sent) outbox → Answering t c outbox outbox′ t′ r
+accepting : (t t′ : Engine) (g : Held) (c : Call) {outbox outbox′ : List ℕ} {r : Answer} → held t ≡ g → turned g c ≡ 0 → held t′ ≡ accepted g c .after → r ≡ accepted g c .answer →
+    outbox′ ≡ written (accepted g c .sent) outbox → Answers t c outbox outbox′ (answered t′ r)
 accepting t t′ g c e p a r o = answering t t′ g c (accepted g c) e (step-is g c 0 p) a r o (λ n. absurd (n p))
 
 -- ---- replies do not depend on texts
@@ -150,19 +150,19 @@ module _ (h : Held) (f : Fits h) where
   abbrev namesOn : List ℕ → List Advertisement
   namesOn texts = entries (length (h .advertisements)) N texts
 
-  on-links : (links : List ℕ) → heldIn (tables (headOf h) links S N T) ≡ other h (linksOn links) (h .context .subscriptions) (h .advertisements)
+  on-links : (links : List ℕ) → held (engine (headOf h) links S N T) ≡ other h (linksOn links) (h .context .subscriptions) (h .advertisements)
   on-links links = head-back h f links S N T ∙ (λ j. other h (linksOn links) (searches-back h f j) (names-back h f j))
 
-  on-searches : (searches : List ℕ) → heldIn (tables (headOf h) L searches N T) ≡ other h (h .context .links) (searchesOn searches) (h .advertisements)
+  on-searches : (searches : List ℕ) → held (engine (headOf h) L searches N T) ≡ other h (h .context .links) (searchesOn searches) (h .advertisements)
   on-searches searches = head-back h f L searches N T ∙ (λ j. other h (links-back h f j) (searchesOn searches) (names-back h f j))
 
-  on-texts : (texts : List ℕ) → heldIn (tables (headOf h) L S N texts) ≡ other h (h .context .links) (h .context .subscriptions) (namesOn texts)
+  on-texts : (texts : List ℕ) → held (engine (headOf h) L S N texts) ≡ other h (h .context .links) (h .context .subscriptions) (namesOn texts)
   on-texts texts = head-back h f L S N texts ∙ (λ j. other h (links-back h f j) (searches-back h f j) (namesOn texts))
 
-  on-both : (searches texts : List ℕ) → heldIn (tables (headOf h) L searches N texts) ≡ other h (h .context .links) (searchesOn searches) (namesOn texts)
+  on-both : (searches texts : List ℕ) → held (engine (headOf h) L searches N texts) ≡ other h (h .context .links) (searchesOn searches) (namesOn texts)
   on-both searches texts = head-back h f L searches N texts ∙ (λ j. other h (links-back h f j) (searchesOn searches) (namesOn texts))
 
-  on-all : (links searches texts : List ℕ) → heldIn (tables (headOf h) links searches N texts) ≡ other h (linksOn links) (searchesOn searches) (namesOn texts)
+  on-all : (links searches texts : List ℕ) → held (engine (headOf h) links searches N texts) ≡ other h (linksOn links) (searchesOn searches) (namesOn texts)
   on-all links searches texts = head-back h f links searches N texts
 
   waiting-on : (texts : List ℕ) → waiting (h .advertisements) ≡ waiting (namesOn texts)
@@ -183,20 +183,20 @@ asked-length seed as′ time sender receiver s (Search st mx) = length-map as′
 asked-length seed as′ time sender receiver s (Response st usn l) = refl
 
 -- a call that has an answer: what is held after it, the outbox, and that the functions give it
-pub record Stepped (Gives : Tables → Call → List ℕ → List ℕ → Answered → Type 0) (h : Held) (c : Call) (outbox : List ℕ) : Type 0 where
+pub record Stepped (Gives : Engine → Call → List ℕ → List ℕ → Answered → Type 0) (h : Held) (c : Call) (outbox : List ℕ) : Type 0 where
   pub after : Held
   pub fits : Fits after
   pub outbox′ : List ℕ
   pub answer : Answer
-  pub gives : Gives (tablesOf h) c outbox outbox′ (answered (tablesOf after) answer)
+  pub gives : Gives (engineOf h) c outbox outbox′ (answered (engineOf after) answer)
 
 -- `new` leaves an engine that has just begun, whatever stands in the arrays that it is not lent
-fresh-held : (seed time : ℕ) → Word seed → (links searches numbers texts : List ℕ) → heldIn (tables (headOf (fresh seed time)) links searches numbers texts) ≡ fresh seed time
+fresh-held : (seed time : ℕ) → Word seed → (links searches numbers texts : List ℕ) → held (engine (headOf (fresh seed time)) links searches numbers texts) ≡ fresh seed time
 unfolding fresh rows
 fresh-held seed time w links searches numbers texts = head-back (fresh seed time) (fits-fresh seed time w) links searches numbers texts
 
-begin-with : {New : ℕ → ℕ → Answered → Type 0} {Gives : Tables → Call → List ℕ → List ℕ → Answered → Type 0} (given : Given New Gives) (seed time : ℕ) → Word seed →
-    (at k : ℕ) → newRefusal time ≡ k → newStep k seed time .after ≡ fresh seed at → (h : Held) × Fits h × (r : Answer) × New seed time (answered (tablesOf h) r)
+begin-with : {New : ℕ → ℕ → Answered → Type 0} {Gives : Engine → Call → List ℕ → List ℕ → Answered → Type 0} (given : Given New Gives) (seed time : ℕ) → Word seed →
+    (at k : ℕ) → newRefusal time ≡ k → newStep k seed time .after ≡ fresh seed at → (h : Held) × Fits h × (r : Answer) × New seed time (answered (engineOf h) r)
 begin-with given seed time w at k e a =
     let h = fresh seed at in
     let r = newStep k seed time .answer in (
@@ -206,17 +206,17 @@ begin-with given seed time w at k e a =
       given .by-new seed time (headOf h) (numberArray (h .advertisements)) r
           (λ links searches texts. record {
             answer = ap (λ (n : ℕ). newStep n seed time .answer) (sym e);
-            tables = fresh-held seed at w links searches (numberArray (h .advertisements)) texts ∙ sym a ∙ ap (λ (n : ℕ). newStep n seed time .after) (sym e);
+            engine = fresh-held seed at w links searches (numberArray (h .advertisements)) texts ∙ sym a ∙ ap (λ (n : ℕ). newStep n seed time .after) (sym e);
           })
           (linkArray (h .context .links)) (searchArray (h .context .subscriptions)) (textArray (h .advertisements)),
     )
 
-module _ {New : ℕ → ℕ → Answered → Type 0} {Gives : Tables → Call → List ℕ → List ℕ → Answered → Type 0} (given : Given New Gives) where
+module _ {New : ℕ → ℕ → Answered → Type 0} {Gives : Engine → Call → List ℕ → List ℕ → Answered → Type 0} (given : Given New Gives) where
   -- a call is accepted or refused
   cases : (h : Held) → Fits h → (c : Call) (o : List ℕ) → InRange c →
       (turned h c ≡ 0 → Fits (accepted h c .after) →
-      Gives (tablesOf h) c o (written (accepted h c .sent) o) (answered (tablesOf (accepted h c .after)) (accepted h c .answer))) →
-      ((k : ℕ) → turned h c ≡ suc k → Gives (tablesOf h) c o o (answered (tablesOf h) (refusedBy (suc k) h .answer))) → Stepped Gives h c o
+      Gives (engineOf h) c o (written (accepted h c .sent) o) (answered (engineOf (accepted h c .after)) (accepted h c .answer))) →
+      ((k : ℕ) → turned h c ≡ suc k → Gives (engineOf h) c o o (answered (engineOf h) (refusedBy (suc k) h .answer))) → Stepped Gives h c o
   cases h f c o i accept refuse = go (turned h c) refl
     where
       go : (k : ℕ) → turned h c ≡ k → Stepped Gives h c o
@@ -226,11 +226,11 @@ module _ {New : ℕ → ℕ → Answered → Type 0} {Gives : Tables → Call �
   module _ (h : Held) (f : Fits h) where
     -- ---- calls that are lent every array
     whole : (c : Call) (o : List ℕ) → turned h c ≡ 0 → Fits (accepted h c .after) →
-        Answering (tablesOf h) c o (written (accepted h c .sent) o) (tablesOf (accepted h c .after)) (accepted h c .answer)
-    whole c o e f′ = accepting (tablesOf h) (tablesOf (accepted h c .after)) h c (held-back h f) e (held-back (accepted h c .after) f′) refl refl
+        Answers (engineOf h) c o (written (accepted h c .sent) o) (answered (engineOf (accepted h c .after)) (accepted h c .answer))
+    whole c o e f′ = accepting (engineOf h) (engineOf (accepted h c .after)) h c (held-back h f) e (held-back (accepted h c .after) f′) refl refl
 
-    whole-refused : (c : Call) (o : List ℕ) (k : ℕ) → turned h c ≡ suc k → Answering (tablesOf h) c o o (tablesOf h) (refusedBy (suc k) h .answer)
-    whole-refused c o k e = refusing (tablesOf h) h c k (held-back h f) e refl
+    whole-refused : (c : Call) (o : List ℕ) (k : ℕ) → turned h c ≡ suc k → Answers (engineOf h) c o o (answered (engineOf h) (refusedBy (suc k) h .answer))
+    whole-refused c o k e = refusing (engineOf h) h c k (held-back h f) e refl
 
     step-new-link : (index flags outcome : ℕ) (o : List ℕ) → Word index → Stepped Gives h (NewLink index flags outcome (length o)) o
     unfolding accepted contextAfter acts results
@@ -259,11 +259,11 @@ module _ {New : ℕ → ℕ → Answered → Type 0} {Gives : Tables → Call �
         let c = Timeout time (length o) in
         let h′ = accepted h c .after in
         let same : textArray (h′ .advertisements) ≡ T h f = texts-kept (served time) (λ a. (refl, refl, refl, refl)) (h .advertisements) in
-        let after : List ℕ → Tables = λ texts. tables (headOf h′) (L h f) (S h f) (numberArray (h′ .advertisements)) texts in
+        let after : List ℕ → Engine = λ texts. engine (headOf h′) (L h f) (S h f) (numberArray (h′ .advertisements)) texts in
         cases h f c o tt
-        (λ e f′. subst (λ (texts : List ℕ). Gives (tablesOf h) c o (written (accepted h c .sent) o) (answered (after texts) (accepted h c .answer))) (sym same)
+        (λ e f′. subst (λ (texts : List ℕ). Gives (engineOf h) c o (written (accepted h c .sent) o) (answered (after texts) (accepted h c .answer))) (sym same)
         (given .by-handle-timeout _ _ _ _ _ _ _ time o _ _
-        (subst (λ (texts : List ℕ). Answering (tablesOf h) c o (written (accepted h c .sent) o) (after texts) (accepted h c .answer)) same (whole c o e f′))))
+        (subst (λ (texts : List ℕ). Answers (engineOf h) c o (written (accepted h c .sent) o) (answered (after texts) (accepted h c .answer))) same (whole c o e f′))))
         (λ k e. given .by-handle-timeout _ _ _ _ _ _ _ time o _ _ (whole-refused c o k e))
 
     -- ---- calls that are not lent the subscriptions
@@ -367,11 +367,11 @@ module _ {New : ℕ → ℕ → Answered → Type 0} {Gives : Tables → Call �
         let same : headOf h′ ≡ headOf h =
         ap (λ (n : ℕ). h .context .seed ∷ h .context .timer .«next_salvo» ∷ h .context .timer .phase ∷ n ∷ length (h .context .links) ∷ length (h .context .subscriptions) ∷ [])
         (asked-length (h .context .seed) (h .advertisements) time sender receiver d (parsed d)) in
-        let after : List ℕ → List ℕ → Tables = λ head links. tables head links (S h f) (numberArray (h′ .advertisements)) (textArray (h′ .advertisements)) in
+        let after : List ℕ → List ℕ → Engine = λ head links. engine head links (S h f) (numberArray (h′ .advertisements)) (textArray (h′ .advertisements)) in
         cases h f c [] i
-        (λ e f′. subst (λ (head : List ℕ). Gives (tablesOf h) c [] [] (answered (after head (L h f)) r)) (sym same)
+        (λ e f′. subst (λ (head : List ℕ). Gives (engineOf h) c [] [] (answered (after head (L h f)) r)) (sym same)
         (given .by-on-data _ _ _ _ _ _ time sender receiver d r
-        (λ links. subst (λ (head : List ℕ). Answering (tables (headOf h) links (S h f) (N h f) (T h f)) c [] [] (after head links) r) same
+        (λ links. subst (λ (head : List ℕ). Answers (engine (headOf h) links (S h f) (N h f) (T h f)) c [] [] (answered (after head links) r)) same
         (accepting _ _ (g links) c (on-links h f links) e (on-links h′ f′ links) refl refl)) (L h f)))
         (λ k e. given .by-on-data _ _ _ _ _ _ time sender receiver d _ (λ links. refusing _ (g links) c k (on-links h f links) e refl) (L h f))
       where
@@ -396,10 +396,10 @@ module _ {New : ℕ → ℕ → Answered → Type 0} {Gives : Tables → Call �
   step-of h f (ResetTimer time) o i l = subst (Stepped Gives h (ResetTimer time)) (sym l) (step-reset h f time)
 
   -- `new`, on arrays of any content
-  begin-of : (seed time : ℕ) → Word seed → (h : Held) × Fits h × (r : Answer) × New seed time (answered (tablesOf h) r)
+  begin-of : (seed time : ℕ) → Word seed → (h : Held) × Fits h × (r : Answer) × New seed time (answered (engineOf h) r)
   begin-of seed time w = go (newRefusal time) refl
     where
-      go : (k : ℕ) → newRefusal time ≡ k → (h : Held) × Fits h × (r : Answer) × New seed time (answered (tablesOf h) r)
+      go : (k : ℕ) → newRefusal time ≡ k → (h : Held) × Fits h × (r : Answer) × New seed time (answered (engineOf h) r)
       go zero e = begin-with given seed time w time zero e refl
       go (suc k) e = begin-with given seed time w 0 (suc k) e refl
 
@@ -408,7 +408,7 @@ module _ {New : ℕ → ℕ → Answered → Type 0} {Gives : Tables → Call �
     state : Held
     fits : Fits state
     answers : List Answer
-    log : Log New Gives seed time (map (λ p. p .0) lent) answers (tablesOf state)
+    log : Log New Gives seed time (map (λ p. p .0) lent) answers (engineOf state)
     outboxes : outboxesOf log ≡ map (λ p. p .1) lent
     sizes : SizedIn log
 
@@ -431,4 +431,4 @@ module _ {New : ℕ → ℕ → Answered → Type 0} {Gives : Tables → Call �
   pub log-of : (seed time : ℕ) → Word seed → (lent : List (Call × List ℕ)) → Lent lent → Logged New Gives seed time lent
   log-of seed time w lent i =
       let k = kept-of seed time w lent i in
-      record { answers = k .answers; last = tablesOf (k .state); log = k .log; outboxes = k .outboxes; sizes = k .sizes }
+      record { answers = k .answers; last = engineOf (k .state); log = k .log; outboxes = k .outboxes; sizes = k .sizes }

@@ -1,18 +1,12 @@
 -- A text in front of an array: what `put` leaves there, read back.
-use mathlib.Core.Path.{_≡_, refl, _∙_, ap}
-use mathlib.Core.Bool.{Bool, true, false, _||_, true≢false}
+use mathlib.Core.Path.{_≡_, _∙_, ap}
 use mathlib.Core.List.{List, [], _++_, append-nil}
 use Prim.Native.Nat.{ℕ, _+_, _≤_}
 use native.Mathlib.Decide.{decLe}
 use native.Mathlib.Omega.{arith}
-use borrow.Author.Tests.{ltb-false}
 use lib.ListN.{length, take, drop, drop-of-length-le}
 use lib.Seq.{take-all, take-at, length-take-le}
-use Rattle.message.specs.Build.{typeMax, nameMax}
 use Rattle.text.specs.Put.{overwritten, Put}
-use Rattle.engine.specs.Sizes.{locationMax}
-use Rattle.engine.specs.Held.{Text}
-use Rattle.engine.specs.Replies.{newcomer}
 use Rattle.engine.specs.Refusals.{over}
 
 -- cut to the array's m bytes, it is the text cut to m bytes
@@ -34,18 +28,3 @@ in-front text {b} {b′} {t} {m} e f p =
         let z : drop (0 + length (take m text)) b ≡ [] = drop-of-length-le b {i = 0 + length (take m text)} (omega arith) in
         q ∙ ap (λ (u : List ℕ). take (length text) (take m text ++ u)) z ∙ ap (take (length text)) (append-nil (take m text))
         ∙ take-all (length text) (take m text) (omega arith)
-
--- ---- texts within their sizes are not cut
-neither : (a b : Bool) → (a || b) ≡ false → (a ≡ false) × (b ≡ false)
-neither true b e = absurd (true≢false e)
-neither false b e = (refl, e)
-
-pub uncut : (name kind location : Text) → (over nameMax name || over typeMax kind || over locationMax location) ≡ false
-    → newcomer (take nameMax name) (take typeMax kind) (take locationMax location) ≡ newcomer name kind location
-uncut name kind location e =
-    let two = neither (over nameMax name || over typeMax kind) (over locationMax location) e in
-    let one = neither (over nameMax name) (over typeMax kind) (two .0) in
-    let n = take-all nameMax name (ltb-false nameMax (length name) (one .0)) in
-    let k = take-all typeMax kind (ltb-false typeMax (length kind) (one .1)) in
-    let l = take-all locationMax location (ltb-false locationMax (length location) (two .1)) in
-    λ i. newcomer (n i) (k i) (l i)

@@ -47,17 +47,6 @@ module _ {A B : Type 0} (f : A → List B) where
   flat-each m h [] = omega arith
   flat-each m h (a ∷ l) = length-append (f a) (flat f l) ∙ omega (arith, h a, flat-each m h l, mul-suc m (length l))
 
-  -- of a single element
-  pub flat-single : (a : A) → flat f (a ∷ []) ≡ f a
-  unfolding flat
-  flat-single a = append-nil (f a)
-
--- over a view of the elements
-pub flat-map : {A B C : Type 0} (f : B → List C) (g : A → B) (l : List A) → flat f (map g l) ≡ flat (λ a. f (g a)) l
-unfolding flat
-flat-map f g [] = refl
-flat-map {C = C} f g (a ∷ l) = ap (λ (x : List C). f (g a) ++ x) (flat-map f g l)
-
 -- one for each element
 pub flat-one : {A B : Type 0} (f : A → B) (l : List A) → flat (λ a. f a ∷ []) l ≡ map f l
 unfolding flat

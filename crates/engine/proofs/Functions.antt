@@ -7,7 +7,7 @@ use lib.ListN.{length}
 use contract.Lifetimes.{Lfts}
 use denote.Ref.{RefT}
 use Rattle.engine.specs.Calls.{Call, NewLink, DeletedLink, NewAddress, DeletedAddress, Subscribe, Advertise, Deadvertise, Refresh, Datagram, Timeout, ResetTimer}
-use Rattle.engine.specs.Arrays.{Tables as Engine, tables as engine}
+use Rattle.engine.specs.Arrays.{Engine, engine}
 use Rattle.engine.specs.Promises.{Answered, answered, Answers, Begins}
 use Rattle.engine.specs.Claim.{Log, Claim}
 use Rattle.engine.specs.EveryList.{Word, Lent, Logged}

@@ -25,9 +25,9 @@ use Rattle.engine.specs.Records.{records, byebyeOn, flat}
 use Rattle.engine.specs.Layout.{written, Sent}
 use Rattle.engine.specs.Links.{contextAfter}
 use Rattle.engine.specs.Engine.{turned, poll, Told, tells, tellsNobody, Step, answerWith, accepted, refusedBy, newStep}
-use Rattle.engine.specs.Arrays.{Tables, tables, heldIn, headPlaces, salvoPlace, phasePlace, namesPlace, linksPlace, searchesPlace, low32, seedIn, timerIn, linkWidth, linkIn, linkCount, linksIn, searchWidth, searchIn, searchRows, searchCount, searchesIn, entryIn, entryAt, replyAt, entries, nameCount, namesIn}
+use Rattle.engine.specs.Arrays.{Engine, engine, held, headPlaces, salvoPlace, phasePlace, namesPlace, linksPlace, searchesPlace, low32, seedIn, timerIn, linkWidth, linkIn, linkCount, linksIn, searchWidth, searchIn, searchRows, searchCount, searchesIn, entryIn, entryAt, replyAt, entries, nameCount, namesIn}
 use Rattle.engine.specs.Changes.{blank, LinksAfter, NamesAfter}
-use Rattle.engine.specs.Promises.{Answering, Beginning}
+use Rattle.engine.specs.Promises.{answered, Answers, Begins}
 use Rattle.engine.specs.declared.engine.Answer.{Answer}
 use Rattle.engine.proofs.TableRows.{lines-length}
 use Rattle.engine.proofs.NameRows.{names-length, name-is}
@@ -36,7 +36,7 @@ use Rattle.engine.proofs.Answering.{written-none, step-refused, step-ac
 use Rattle.engine.proofs.Heads as heads
 
 -- an answer, with the waiting and poll of what the arrays hold
-pub answer-of : (number records : ℕ) (c : Counts) (w : Told) (t : Tables) (waits soon : ℕ) → waits ≡ waiting (namesIn (t .head) (t .numbers) (t .texts)) →
+pub answer-of : (number records : ℕ) (c : Counts) (w : Told) (t : Engine) (waits soon : ℕ) → waits ≡ waiting (namesIn (t .head) (t .numbers) (t .texts)) →
     soon ≡ soonest (timerIn (t .head) .«next_salvo») (namesIn (t .head) (t .numbers) (t .texts)) →
     _≡_ {A = Answer} (record {
       refusal = number;
@@ -51,18 +51,18 @@ pub answer-of : (number records : ℕ) (c : Counts) (w : Told) (t : Tables) (wai
       mask = w .mask;
       told = w .number;
       leave = w .leave;
-    }) (answerWith number records c (heldIn t) w)
-unfolding heldIn poll
+    }) (answerWith number records c (held t) w)
+unfolding held poll
 answer-of number records c w t waits soon hw hs = rw (hw, hs)
 
 -- ---- a call that refused with k: the very arrays, document 01's refused answer, the outbox as it was
-pub refused-answers : (t : Tables) (c : Call) (outbox : List ℕ) (r : Answer) (k : ℕ) → turned (heldIn t) c ≡ k → (k ≡ 0 → ⊥) →
-    r ≡ refusedBy k (heldIn t) .answer → Answering t c outbox outbox t r
+pub refused-answers : (t : Engine) (c : Call) (outbox : List ℕ) (r : Answer) (k : ℕ) → turned (held t) c ≡ k → (k ≡ 0 → ⊥) →
+    r ≡ refusedBy k (held t) .answer → Answers t c outbox outbox (answered t r)
 refused-answers t c outbox r k e n answer =
-    let s = step-refused (heldIn t) c k e n in
+    let s = step-refused (held t) c k e n in
     record {
       answer = answer ∙ ap (λ (x : Step). x .answer) (sym s);
-      tables = ap (λ (x : Step). x .after) (sym s);
+      engine = ap (λ (x : Step). x .after) (sym s);
       sent = sym (ap (λ (x : Step). written (x .sent) outbox) s ∙ written-none outbox);
       untouched = λ _. refl;
     }
@@ -71,46 +71,46 @@ refused-answers t c outbox r k e n answer =
 abbrev pub Done : Held → Call → Held
 Done h c = record { context = contextAfter (h .context) c; advertisements = results (h .context .seed) (h .advertisements) (acts c) .advertisements }
 
-pub done-answers : (t t′ : Tables) (c : Call) {outbox outbox′ : List ℕ} {r : Answer} (k : ℕ) (n : Counts) (w : Told) → turned (heldIn t) c ≡ 0 →
-    heldIn t′ ≡ Done (heldIn t) c → n ≡ results (heldIn t .context .seed) (heldIn t .advertisements) (acts c) .counts → w ≡ tells (heldIn t .context) c →
-    Sent (records (heldIn t .context) (heldIn t .advertisements) c) outbox outbox′ k → r ≡ answerWith 0 k n (heldIn t′) w →
-    Answering t c outbox outbox′ t′ r
+pub done-answers : (t t′ : Engine) (c : Call) {outbox outbox′ : List ℕ} {r : Answer} (k : ℕ) (n : Counts) (w : Told) → turned (held t) c ≡ 0 →
+    held t′ ≡ Done (held t) c → n ≡ results (held t .context .seed) (held t .advertisements) (acts c) .counts → w ≡ tells (held t .context) c →
+    Sent (records (held t .context) (held t .advertisements) c) outbox outbox′ k → r ≡ answerWith 0 k n (held t′) w →
+    Answers t c outbox outbox′ (answered t′ r)
 unfolding accepted
 done-answers t t′ c {outbox} k n w pass after counts told sent answer =
-    let s = step-accepted (heldIn t) c pass in
+    let s = step-accepted (held t) c pass in
     record {
       answer = answer ∙ (λ i. answerWith 0 (sent .number i) (counts i) (after i) (told i)) ∙ ap (λ (x : Step). x .answer) (sym s);
-      tables = after ∙ ap (λ (x : Step). x .after) (sym s);
+      engine = after ∙ ap (λ (x : Step). x .after) (sym s);
       sent = sent .bytes ∙ ap (λ (x : Step). written (x .sent) outbox) (sym s);
       untouched = λ z. absurd (z pass);
     }
 
 -- ---- `new`
-pub refused-begins : (seed time : ℕ) (t : Tables) (r : Answer) (k : ℕ) → k ≡ newRefusal time → (k ≡ 0 → ⊥) → heldIn t ≡ fresh seed 0 →
-    r ≡ refusedBy k (heldIn t) .answer → Beginning seed time t r
+pub refused-begins : (seed time : ℕ) (t : Engine) (r : Answer) (k : ℕ) → k ≡ newRefusal time → (k ≡ 0 → ⊥) → held t ≡ fresh seed 0 →
+    r ≡ refusedBy k (held t) .answer → Begins seed time (answered t r)
 refused-begins seed time t r k e n f answer =
     let s : newStep (newRefusal time) seed time ≡ refusedBy k (fresh seed 0) = ap (λ (x : ℕ). newStep x seed time) (sym e) ∙ new-refused k seed time n in
     record {
       answer = answer ∙ ap (λ (h : Held). refusedBy k h .answer) f ∙ ap (λ (x : Step). x .answer) (sym s);
-      tables = f ∙ ap (λ (x : Step). x .after) (sym s);
+      engine = f ∙ ap (λ (x : Step). x .after) (sym s);
     }
 
-pub accepted-begins : (seed time : ℕ) (t : Tables) (r : Answer) (n : Counts) (w : Told) → newRefusal time ≡ 0 → heldIn t ≡ fresh seed time → n ≡ zeros → w ≡ tellsNobody →
-    r ≡ answerWith 0 0 n (heldIn t) w → Beginning seed time t r
+pub accepted-begins : (seed time : ℕ) (t : Engine) (r : Answer) (n : Counts) (w : Told) → newRefusal time ≡ 0 → held t ≡ fresh seed time → n ≡ zeros → w ≡ tellsNobody →
+    r ≡ answerWith 0 0 n (held t) w → Begins seed time (answered t r)
 accepted-begins seed time t r n w e f counts told answer =
     let s : newStep (newRefusal time) seed time ≡ newStep 0 seed time = ap (λ (x : ℕ). newStep x seed time) e in
     record {
       answer = answer ∙ (λ i. answerWith 0 0 (counts i) (f i) (told i)) ∙ ap (λ (x : Step). x .answer) (sym s);
-      tables = f ∙ ap (λ (x : Step). x .after) (sym s);
+      engine = f ∙ ap (λ (x : Step). x .after) (sym s);
     }
 
 -- what the arrays hold that begin: nothing but a timer
 pub begun-fresh : {head : List ℕ} (links searches numbers texts : List ℕ) (t : RefreshTimer) (seed time : ℕ) → head ≡ heads.begun t → t ≡ timerNew seed time → seed < 4294967296 →
-    heldIn (tables head links searches numbers texts) ≡ fresh seed time
-unfolding fresh timerNew heldIn seedIn timerIn linksIn searchesIn namesIn rows
+    held (engine head links searches numbers texts) ≡ fresh seed time
+unfolding fresh timerNew held seedIn timerIn linksIn searchesIn namesIn rows
 begun-fresh links searches numbers texts t seed time e f h =
     let s : low32 seed ≡ seed = omega arith in
-    ap (λ (x : List ℕ). heldIn (tables x links searches numbers texts)) (e ∙ ap heads.begun f)
+    ap (λ (x : List ℕ). held (engine x links searches numbers texts)) (e ∙ ap heads.begun f)
     ∙ (λ i. holding (s i) (record { «random_seed» = s i; «next_salvo» = time; phase = 0 }) [] [] [])
 
 -- a timer with a head's seed and a phase of one byte
@@ -120,10 +120,10 @@ Keeps head t = (t .«random_seed» ≡ seedIn head) × (t .phase < 256)
 -- ---- the arrays after a change of one table, whose count was stored
 module _ (head links searches numbers texts : List ℕ) (size : length head ≡ headPlaces) where
   pub links-changed : {head′ links′ : List ℕ} (n : ℕ) (l : List Link) → head′ ≡ set head linksPlace n → LinksAfter n links′ l →
-      heldIn (tables head′ links′ searches numbers texts) ≡ holding (seedIn head) (timerIn head) l (searchesIn head searches) (namesIn head numbers texts)
-  unfolding heldIn
+      held (engine head′ links′ searches numbers texts) ≡ holding (seedIn head) (timerIn head) l (searchesIn head searches) (namesIn head numbers texts)
+  unfolding held
   links-changed {head′} {links′} n l e a =
-      ap (λ (h : List ℕ). heldIn (tables h links′ searches numbers texts)) e
+      ap (λ (h : List ℕ). held (engine h links′ searches numbers texts)) e
       ∙ (λ i. holding (heads.seed-kept head linksPlace n (omega arith) i) (heads.timer-kept head linksPlace n (omega arith) i)
       ((heads.links-counted head n size links′ (a .few) ∙ a .rows) i) (heads.searches-kept head linksPlace n searches (λ z. omega arith) i)
       (heads.names-kept head linksPlace n numbers texts (λ z. omega arith) i))
@@ -134,12 +134,12 @@ module _ (head links searches numbers texts : List ℕ) (size : length head ≡ 
 
   pub searches-pushed : {head′ : List ℕ} (searches′ : List ℕ) (n : ℕ) (kind : Text) → head′ ≡ set head searchesPlace (n + 1) → n ≡ searchCount head → n < subscriptionsMax →
       searchRows (suc n) searches′ ≡ searchRows n searches ++ (kind ∷ []) →
-      heldIn (tables head′ links searches′ numbers texts)
+      held (engine head′ links searches′ numbers texts)
       ≡ holding (seedIn head) (timerIn head) (linksIn head links) (searchesIn head searches ++ (kind ∷ [])) (namesIn head numbers texts)
-  unfolding heldIn
+  unfolding held
   searches-pushed searches′ n kind e count few a =
       let m = n + 1 in
-      ap (λ (h : List ℕ). heldIn (tables h links searches′ numbers texts)) e
+      ap (λ (h : List ℕ). held (engine h links searches′ numbers texts)) e
       ∙ (λ i. holding (heads.seed-kept head searchesPlace m (omega arith) i) (heads.timer-kept head searchesPlace m (omega arith) i)
       (heads.links-kept head searchesPlace m links (λ z. omega arith) i)
       ((heads.searches-counted head m size searches′ (omega arith) ∙ ap (λ (k : ℕ). searchRows k searches′) (add-one n) ∙ a
@@ -147,20 +147,20 @@ module _ (head links searches numbers texts : List ℕ) (size : length head ≡ 
       (heads.names-kept head searchesPlace m numbers texts (λ z. omega arith) i))
 
   pub names-changed : {head′ numbers′ texts′ : List ℕ} (n : ℕ) (l : List Advertisement) → head′ ≡ set head namesPlace n → NamesAfter n numbers′ texts′ l →
-      heldIn (tables head′ links searches numbers′ texts′) ≡ holding (seedIn head) (timerIn head) (linksIn head links) (searchesIn head searches) l
-  unfolding heldIn
+      held (engine head′ links searches numbers′ texts′) ≡ holding (seedIn head) (timerIn head) (linksIn head links) (searchesIn head searches) l
+  unfolding held
   names-changed {head′} {numbers′} {texts′} n l e a =
-      ap (λ (h : List ℕ). heldIn (tables h links searches numbers′ texts′)) e
+      ap (λ (h : List ℕ). held (engine h links searches numbers′ texts′)) e
       ∙ (λ i. holding (heads.seed-kept head namesPlace n (omega arith) i) (heads.timer-kept head namesPlace n (omega arith) i)
       (heads.links-kept head namesPlace n links (λ z. omega arith) i) (heads.searches-kept head namesPlace n searches (λ z. omega arith) i)
       ((heads.names-counted head n size numbers′ texts′ (a .few) ∙ a .rows) i))
 
   -- and of the timer, which keeps its seed
   pub timer-changed : {head′ : List ℕ} (u t : RefreshTimer) → head′ ≡ set (set head salvoPlace (u .«next_salvo»)) phasePlace (u .phase) → u ≡ t → Keeps head t →
-      heldIn (tables head′ links searches numbers texts) ≡ holding (seedIn head) t (linksIn head links) (searchesIn head searches) (namesIn head numbers texts)
-  unfolding heldIn
+      held (engine head′ links searches numbers texts) ≡ holding (seedIn head) t (linksIn head links) (searchesIn head searches) (namesIn head numbers texts)
+  unfolding held
   timer-changed u t e f k =
-      ap (λ (h : List ℕ). heldIn (tables h links searches numbers texts)) (e ∙ ap (λ (x : RefreshTimer). heads.timed head x) f)
+      ap (λ (h : List ℕ). held (engine h links searches numbers texts)) (e ∙ ap (λ (x : RefreshTimer). heads.timed head x) f)
       ∙ (λ i. holding (heads.timed-seed head t size i) (heads.timed-timer head t size (k .0) (k .1) i) (heads.timed-links head t size links i)
       (heads.timed-searches head t size searches i) (heads.timed-names head t size numbers texts i))
 

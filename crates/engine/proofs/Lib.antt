@@ -9,8 +9,6 @@ pub mod Matching
 pub mod StarCases
 pub mod Tables
 pub mod Slots
-pub mod Shifts
-pub mod SlotTables
 pub mod LinkTables
 pub mod Fields
 pub mod Passes

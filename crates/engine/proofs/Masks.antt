@@ -54,10 +54,6 @@ module _ (kind : Text) where
   pub mask-fits : (l : List Text) → length l ≤ 31 → maskOf l kind < 2147483648
   mask-fits l h = omega (arith, mask-small l, pow-mono {i = length l} {j = 31} h)
 
-  -- that of three subscriptions or fewer
-  pub mask-few : (l : List Text) → length l ≤ 3 → maskOf l kind < 8
-  mask-few l h = omega (arith, mask-small l, pow-mono {i = length l} {j = 3} h)
-
   -- the count of ones of a mask is the number of matches
   bit-ones : (b : Bool) (m : ℕ) → ones (one b + 2 * m) ≡ one b + ones m
   bit-ones b m =

@@ -8,7 +8,7 @@ use lib.ListN.{length, take, getD, length-append}
 use Rattle.engine.specs.Sizes.{recordSize}
 use Rattle.engine.specs.Records.{Record, flat}
 use Rattle.engine.specs.Layout.{Room, Sends}
-use Rattle.engine.proofs.Flat.{flat-more, flat-fewer, flat-map, flat-one}
+use Rattle.engine.proofs.Flat.{flat-more, flat-fewer, flat-one}
 use Rattle.engine.proofs.Sending as sending
 use Rattle.engine.proofs.Slots.{clamped}
 
@@ -60,7 +60,3 @@ module _ {A : Type 0} (l : List A) (n m : ℕ) {c : ℕ} (size : length l ≡ c)
   -- several for each
   pub several : (g : A → List Record) → flat g (take m l) ≡ flat g (take n l)
   several g = ap (flat g) (clamped l n m lesser)
-
-  -- and through a view
-  pub viewed : {B : Type 0} (view : A → B) (g : B → List Record) → flat (λ a. g (view a)) (take m l) ≡ flat g (map view (take n l))
-  viewed view g = ap (flat (λ a. g (view a))) (clamped l n m lesser) ∙ sym (flat-map g view (take n l))

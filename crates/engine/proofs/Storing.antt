@@ -14,7 +14,7 @@ use Rattle.engine.specs.Sizes.{addressesMax, locationMax}
 use Rattle.engine.specs.Rows.{rows}
 use Rattle.engine.specs.Held.{Text, Link, Context, Advertisement, Held, holding}
 use Rattle.engine.specs.Records.{flat}
-use Rattle.engine.specs.Arrays.{low32, seedIn, timerIn, linkWidth, linkNumbers, linkIn, linkRows, linksIn, searchWidth, searchBytes, searchIn, searchRows, searchesIn, numbersWidth, numbersSize, kindPlace, locationPlace, answerPlace, textsWidth, textsSize, replyOf, replyIn, entryIn, entries, namesIn, Tables, tables, heldIn}
+use Rattle.engine.specs.Arrays.{low32, seedIn, timerIn, linkWidth, linkNumbers, linkIn, linkRows, linksIn, searchWidth, searchBytes, searchIn, searchRows, searchesIn, numbersWidth, numbersSize, kindPlace, locationPlace, answerPlace, textsWidth, textsSize, replyOf, replyIn, entryIn, entries, namesIn, Engine, engine, held}
 use Rattle.engine.specs.EveryList.{Byte, Word, SenderFits, Sized}
 use Rattle.engine.specs.declared.advertisement.ResponseNeeded.{ResponseNeeded}
 use Rattle.engine.specs.declared.advertisement.ResponseNeeded.the-variants.{None, Multicast, Unicast}
@@ -230,9 +230,9 @@ numberArray as′ = pad numbersSize (flat numberRow as′)
 pub textArray : List Advertisement → List ℕ
 textArray as′ = pad textsSize (flat textRow as′)
 
-abbrev pub tablesOf : Held → Tables
-tablesOf h =
-    tables (headOf h) (linkArray (h .context .links)) (searchArray (h .context .subscriptions)) (numberArray (h .advertisements))
+abbrev pub engineOf : Held → Engine
+engineOf h =
+    engine (headOf h) (linkArray (h .context .links)) (searchArray (h .context .subscriptions)) (numberArray (h .advertisements))
     (textArray (h .advertisements))
 
 -- a timeout keeps the texts
@@ -263,10 +263,10 @@ module _ (h : Held) (f : Fits h) where
   namesFit = each-both (f .reachable .listed .fit) (f .replies)
 
   -- what each array holds, whatever the others do
-  pub head-back : (links searches numbers texts : List ℕ) → heldIn (tables (headOf h) links searches numbers texts) ≡
+  pub head-back : (links searches numbers texts : List ℕ) → held (engine (headOf h) links searches numbers texts) ≡
       holding (h .context .seed) (h .context .timer) (linkRows (length (h .context .links)) links) (searchRows (length (h .context .subscriptions)) searches)
       (entries (length (h .advertisements)) numbers texts)
-  unfolding heldIn headOf seedIn timerIn linksIn searchesIn namesIn
+  unfolding held headOf seedIn timerIn linksIn searchesIn namesIn
   head-back links searches numbers texts =
       let seed = mod-eq-of-lt (f .ranged .seed) in
       let own = seed ∙ sym (f .ranged .timer) in
@@ -290,13 +290,13 @@ module _ (h : Held) (f : Fits h) where
   names-back =
       rows-back numbersWidth textsWidth entryIn numberRow textRow NameFits numbers-sized texts-sized entry-back (h .advertisements) namesFit _ _
 
-  pub held-back : heldIn (tablesOf h) ≡ h
+  pub held-back : held (engineOf h) ≡ h
   held-back =
       head-back (linkArray (h .context .links)) (searchArray (h .context .subscriptions)) (numberArray (h .advertisements)) (textArray (h .advertisements))
       ∙ (λ j. holding (h .context .seed) (h .context .timer) (links-back j) (searches-back j) (names-back j))
 
   -- and each has its size
-  pub all-sized : Sized (tablesOf h)
+  pub all-sized : Sized (engineOf h)
   unfolding headOf linkArray searchArray numberArray textArray
   all-sized = record {
     head = refl;

@@ -2,28 +2,14 @@
 use mathlib.Core.Path.{_≡_, sym, _∙_, ap}
 use mathlib.Core.Bool.{cond}
 use mathlib.Core.List.{List, [], _∷_, _++_, append-assoc, append-nil}
-use Prim.Native.Nat.{ℕ, min, _+_, _*_, _≤_}
+use Prim.Native.Nat.{ℕ, _+_, _*_, _≤_}
 use native.Mathlib.Omega.{arith}
-use lib.ListN.{length, take, getD}
+use lib.ListN.{take}
 use Rattle.engine.specs.Sizes.{linksMax, addressesMax}
 use Rattle.engine.specs.Held.{Link}
 use Rattle.engine.specs.Links.{upAddresses}
 use Rattle.engine.specs.Addresses.{SourcesOf}
 use Rattle.engine.specs.declared.source.Sources.{Sources}
-use Rattle.engine.proofs.Slots as slots
-
--- ---- a link's own addresses, of which there are none, one or two
-module _ (l : List ℕ) (m : ℕ) where
-  pub none-held : min m (length l) ≡ 0 → take m l ≡ []
-  none-held e = slots.left-none l m 0 (omega arith)
-
-  pub one-held : min m (length l) ≡ 1 → take m l ≡ getD l 0 0 ∷ []
-  one-held e = slots.left-cons l m 0 0 (omega arith) ∙ ap (λ (t : List ℕ). getD l 0 0 ∷ t) (slots.left-none l m 1 (omega arith))
-
-  pub two-held : min m (length l) ≡ 2 → take m l ≡ getD l 0 0 ∷ getD l 1 0 ∷ []
-  two-held e =
-      slots.left-cons l m 0 0 (omega arith)
-      ∙ ap (λ (t : List ℕ). getD l 0 0 ∷ t) (slots.left-cons l m 1 0 (omega arith) ∙ ap (λ (t : List ℕ). getD l 1 0 ∷ t) (slots.left-none l m 2 (omega arith)))
 
 -- ---- the loop over links
 module _ (ls : List Link) where

@@ -178,17 +178,17 @@ abbrev pub NameArrays : List ℕ → List ℕ → Type 0
 NameArrays numbers texts = (length numbers ≡ numbersSize) × (length texts ≡ textsSize)
 
 -- ---- all five
-pub record Tables : Type 0 where
+pub record Engine : Type 0 where
   pub head : List ℕ
   pub links : List ℕ
   pub searches : List ℕ
   pub numbers : List ℕ
   pub texts : List ℕ
 
-abbrev pub tables : List ℕ → List ℕ → List ℕ → List ℕ → List ℕ → Tables
-tables head links searches numbers texts = record { head = head; links = links; searches = searches; numbers = numbers; texts = texts }
+abbrev pub engine : List ℕ → List ℕ → List ℕ → List ℕ → List ℕ → Engine
+engine head links searches numbers texts = record { head = head; links = links; searches = searches; numbers = numbers; texts = texts }
 
-unfoldable pub heldIn : Tables → Held
-heldIn t =
+unfoldable pub held : Engine → Held
+held t =
     holding (seedIn (t .head)) (timerIn (t .head)) (linksIn (t .head) (t .links)) (searchesIn (t .head) (t .searches))
     (namesIn (t .head) (t .numbers) (t .texts))

@@ -15,7 +15,7 @@ use Rattle.engine.specs.Links.{upAddresses}
 use Rattle.engine.specs.Records.{Record, refreshRecords, salvoDue}
 use Rattle.engine.specs.Layout.{textOf, messageOf, written}
 use Rattle.engine.specs.Engine.{step}
-use Rattle.engine.specs.Arrays.{Tables as Engine, heldIn as held}
+use Rattle.engine.specs.Arrays.{Engine, held}
 use Rattle.engine.specs.Promises.{Answered}
 use Rattle.engine.specs.Ledger.{Wait, Name, withWait, waitsIn, opened, loneReply, repliesTo, Ledger, refusalIn, entry, ledgerOf, sumsOf, ledgerRecords}
 use Rattle.engine.specs.declared.advertisement.ResponseNeeded.{ResponseNeeded}

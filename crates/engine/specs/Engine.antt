@@ -1,6 +1,5 @@
--- A call on an engine: the answer, what is held after it, and the outbox. The contracts of the public calls cite `Answers` (document 01, 'Who can be turned away').
+-- A call on what is held: the answer, what is held after it, and what it sends (document 01, 'Who can be turned away'). The contracts of the public calls cite it through specs/Promises.antt.
 use Prim.Native.Nat.{ℕ, zero, suc, _+_, _*_}
-use mathlib.Core.Path.{_≡_}
 use mathlib.Core.Bool.{cond}
 use mathlib.Core.List.{List, [], _∷_}
 use lib.ListN.{length}
@@ -10,16 +9,13 @@ use Rattle.message.specs.declared.Message.the-variants.{Empty, Invalid, NotifyA
 use Rattle.engine.specs.Sizes.{outboxSize}
 use Rattle.engine.specs.Table.{known}
 use Rattle.engine.specs.Target.{targetMatch}
-use Rattle.engine.specs.Held.{Text, Context, Held, Advertisement, held, fresh, advertised, byIndex}
+use Rattle.engine.specs.Held.{Text, Context, Held, Advertisement, fresh, advertised, byIndex}
 use Rattle.engine.specs.Calls.{Call, NewLink, DeletedLink, NewAddress, DeletedAddress, Subscribe, Advertise, Deadvertise, Refresh, Datagram, Timeout, ResetTimer, Counts, zeros, acts}
 use Rattle.engine.specs.Links.{contextAfter}
 use Rattle.engine.specs.Records.{Record, records}
-use Rattle.engine.specs.Layout.{written}
 use Rattle.engine.specs.Replies.{one, waiting, soonest, results}
-use Rattle.engine.specs.Refusals.{Names, refusal, newRefusal}
-use Rattle.engine.specs.declared.engine.Engine.{Engine}
+use Rattle.engine.specs.Refusals.{Names, refusal}
 use Rattle.engine.specs.declared.engine.Answer.{Answer}
-use Rattle.engine.specs.declared.engine.Answered.{Answered}
 
 -- the room that refusal 2 asks for (02, change 1: that of the records which this call would write)
 abbrev pub need : Context → List Advertisement → Call → ℕ
@@ -127,18 +123,7 @@ unless (suc k) h s = refusedBy (suc k) h
 unfoldable pub step : Held → Call → Step
 step h c = unless (turned h c) h (accepted h c)
 
--- what every public call promises: its answer, what is held after it, the outbox after it; refused, the engine is the very one that came
-pub record Answers (e : Engine) (c : Call) (outbox outbox′ : List ℕ) (r : Answered) : Type 0 where
-  pub answer : r .answer ≡ step (held e) c .answer
-  pub engine : held (r .engine) ≡ step (held e) c .after
-  pub sent : outbox′ ≡ written (step (held e) c .sent) outbox
-  pub untouched : (turned (held e) c ≡ 0 → ⊥) → r .engine ≡ e
-
 -- and `new`: a refused one gives an engine with that seed at time 0
 abbrev pub newStep : ℕ → ℕ → ℕ → Step
 newStep zero seed time = record { after = fresh seed time; sent = []; answer = answerWith 0 0 zeros (fresh seed time) tellsNobody }
 newStep (suc k) seed time = refusedBy (suc k) (fresh seed 0)
-
-pub record Begins (seed time : ℕ) (r : Answered) : Type 0 where
-  pub answer : r .answer ≡ newStep (newRefusal time) seed time .answer
-  pub engine : held (r .engine) ≡ newStep (newRefusal time) seed time .after

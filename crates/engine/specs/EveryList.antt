@@ -4,7 +4,7 @@ use mathlib.Core.Path.{_≡_}
 use mathlib.Core.List.{List, [], _∷_, map, List·Memᴰ as In}
 use lib.ListN.{length}
 use Rattle.engine.specs.Calls.{Call, NewLink, DeletedLink, NewAddress, DeletedAddress, Subscribe, Advertise, Deadvertise, Refresh, Datagram, Timeout, ResetTimer}
-use Rattle.engine.specs.Arrays.{headPlaces, linkNumbers, searchBytes, numbersSize, textsSize, Tables as Engine}
+use Rattle.engine.specs.Arrays.{headPlaces, linkNumbers, searchBytes, numbersSize, textsSize, Engine}
 use Rattle.engine.specs.Promises.{Answered}
 use Rattle.engine.specs.Claim.{Log, new, call}
 use Rattle.engine.specs.declared.advertisement.Endpoint.{Endpoint}

@@ -1,8 +1,7 @@
--- What an engine holds, without the padding of its tables: the view of the struct that contracts and claims go by.
--- A length above its array means the whole array, as `take` has it.
+-- What an engine holds, without the padding of its tables: contracts and claims go by it. specs/Arrays.antt says what arrays hold it.
 use Prim.Native.Nat.{ℕ}
 use mathlib.Core.Bool.{Bool, true, false}
-use mathlib.Core.List.{List, [], map}
+use mathlib.Core.List.{List, []}
 use lib.Dec.{eqb, ltb}
 use lib.ListN.{take}
 use Rattle.text.specs.Bytes.{order, equal}
@@ -12,13 +11,7 @@ use Rattle.engine.specs.Table.{Key}
 use Rattle.engine.specs.RefreshTimer.{timerNew}
 use Rattle.engine.specs.declared.refresh_timer.RefreshTimer.{RefreshTimer}
 use Rattle.engine.specs.declared.interface.Interface.{Interface}
-use Rattle.engine.specs.declared.interface.Interfaces.{Interfaces}
-use Rattle.engine.specs.declared.subscription.ActiveSearch.{ActiveSearch}
-use Rattle.engine.specs.declared.subscription.ActiveSearches.{ActiveSearches}
 use Rattle.engine.specs.declared.advertisement.ResponseNeeded.{ResponseNeeded}
-use Rattle.engine.specs.declared.advertisement.ActiveAdvertisement.{ActiveAdvertisement}
-use Rattle.engine.specs.declared.advertisement.Advertisements.{Advertisements}
-use Rattle.engine.specs.declared.engine.Engine.{Engine}
 
 abbrev pub Text : Type 0
 Text = List ℕ
@@ -48,41 +41,9 @@ pub record Held : Type 0 where
   pub context : Context
   pub advertisements : List Advertisement
 
--- ---- the view of the struct
+-- ---- a link that was taken out of its row; a count above its array means the whole array
 unfoldable pub linkOf : Interface → Link
 linkOf i = record { index = i .index; up = i .up; addresses = take (i .count) (i .addresses) }
-
-unfoldable pub linksOf : Interfaces → List Link
-linksOf t = map linkOf (take (t .count) (t .slots))
-
-unfoldable pub kindOf : ActiveSearch → Text
-kindOf s = take (s .«kind_len») (s .kind)
-
-unfoldable pub subscriptionsOf : ActiveSearches → List Text
-subscriptionsOf t = map kindOf (take (t .count) (t .slots))
-
-unfoldable pub advertisementOf : ActiveAdvertisement → Advertisement
-advertisementOf a = record {
-  name = take (a .«name_len») (a .name);
-  kind = take (a .«kind_len») (a .kind);
-  location = take (a .«location_len») (a .location);
-  needed = a .«response_needed»;
-  answer = take (a .«answer_len») (a .answer);
-}
-
-unfoldable pub advertisementsOf : Advertisements → List Advertisement
-advertisementsOf t = map advertisementOf (take (t .count) (t .slots))
-
-unfoldable pub held : Engine → Held
-held e = record {
-  context = record {
-    seed = e .«random_seed»;
-    timer = e .«refresh_timer»;
-    links = linksOf (e .interfaces);
-    subscriptions = subscriptionsOf (e .«active_searches»);
-  };
-  advertisements = advertisementsOf (e .advertisements);
-}
 
 -- what is held, part by part
 abbrev pub holding : ℕ → RefreshTimer → List Link → List Text → List Advertisement → Held

@@ -17,13 +17,10 @@ pub mod Records
 pub mod Announcements
 pub mod Layout
 pub mod Replies
-pub mod NameTable
 pub mod Passes
-pub mod Asking
 pub mod Reading
 pub mod Refusals
 pub mod Engine
-pub mod TimedOut
 pub mod Tallies
 pub mod Telling
 pub mod Ledger

@@ -1,23 +1,16 @@
 // One message to the group from every address on an up link: document 01, 'Outbox'.
 // The contracts cite specs/Announcements.antt and, for what is written, `Sends` of specs/Layout.antt.
-use crate::advertisement::ActiveAdvertisement;
 use crate::clamp::least;
-use crate::field::front80;
-use crate::field::front120;
-use crate::field::front128;
 use crate::outbox::byebye_on;
 use crate::outbox::notify_on;
 use crate::outbox::search_on;
 use crate::sizes::SOURCES;
-use crate::subscription::ActiveSearch;
 ghost use mathlib.Core.List.{[], _∷_};
 ghost use Prim.Native.Nat.{_+_, _*_, _≤_};
 ghost use lib.ListN.{length, take};
 ghost use Rattle.engine.specs.Sizes.{recordSize, locationMax};
-ghost use Rattle.engine.specs.Held.{advertisementOf, kindOf};
-ghost use Rattle.engine.specs.Records.{searchOn};
 ghost use Rattle.engine.specs.Layout.{Room, Sends};
-ghost use Rattle.engine.specs.Announcements.{announced, announcedOn, entryOn};
+ghost use Rattle.engine.specs.Announcements.{announced, announcedOn};
 
 // What is said: a search for a type, that a service is there, that a service goes.
 pub enum Announcement {
@@ -68,55 +61,4 @@ pub(crate) fn announce_on_all(
         i += 1;
     }
     at
-}
-
-// From record k on: an announcement of an advertisement from each of the first `n` addresses. Answers the next record's number.
-pub(crate) fn announce_entry(
-    outbox: &mut [u8],
-    k: usize,
-    up: [u32; SOURCES],
-    n: usize,
-    what: Announcement,
-    a: ActiveAdvertisement,
-) -> usize
-    requires { ⌜ Room (now outbox) k (entryOn (take n up) what (advertisementOf a)) ⌝ }
-    ensures { λ r. ⌜ Sends (now (outbox .entry)) k (entryOn (take n up) what (advertisementOf a)) (now (outbox .exit)) r ⌝ }
-{
-    let kind = a.kind;
-    let name = a.name;
-    let location = a.location;
-    announce_on_all(
-        outbox,
-        k,
-        up,
-        n,
-        what,
-        front80(&kind, a.kind_len),
-        front128(&name, a.name_len),
-        front120(&location, a.location_len),
-    )
-}
-
-// From record k on: a subscription's search from each of the first `n` addresses. Answers the next record's number.
-pub(crate) fn search_entry(
-    outbox: &mut [u8],
-    k: usize,
-    up: [u32; SOURCES],
-    n: usize,
-    s: ActiveSearch,
-) -> usize
-    requires { ⌜ Room (now outbox) k (searchOn (take n up) (kindOf s)) ⌝ }
-    ensures { λ r. ⌜ Sends (now (outbox .entry)) k (searchOn (take n up) (kindOf s)) (now (outbox .exit)) r ⌝ }
-{
-    let kind = s.kind;
-    announce_on_all(
-        outbox,
-        k,
-        up,
-        n,
-        Announcement::Search,
-        front80(&kind, s.kind_len),
-        b"",
-        b"",
-    )
 }

@@ -1,5 +1,5 @@
 // The calls over the arrays that an owner lends: document 01, 'Engine and ledger' and 'Who can be turned away'. Each is lent what it needs and changes it in place;
-// each contract is `Answering` of specs/Promises.antt at that call, for every content of the arrays.
+// each contract is `Answers` of specs/Promises.antt at that call, for every content of the arrays.
 use crate::address;
 use crate::advertisement::Endpoint;
 use crate::engine::Answer;
@@ -67,14 +67,14 @@ ghost use Rattle.engine.specs.declared.reading.Subject.the-variants.{Not
 ghost use Rattle.engine.specs.Calls.{NewLink, DeletedLink, NewAddress, DeletedAddress, Subscribe, Advertise, Deadvertise, Refresh, Datagram, Timeout, ResetTimer};
 ghost use Rattle.engine.specs.Engine.{refusedBy, answerWith};
 ghost use Rattle.engine.specs.Tallies.{counted, toldBy};
-ghost use Rattle.engine.specs.Arrays.{headPlaces, numbersSize, linksIn, entryAt, replyAt, nameCount, namesIn, LinkArrays, SearchArrays, NameArrays, tables, heldIn};
+ghost use Rattle.engine.specs.Arrays.{headPlaces, numbersSize, linksIn, entryAt, replyAt, nameCount, namesIn, LinkArrays, SearchArrays, NameArrays, engine, held};
 ghost use Rattle.engine.specs.Changes.{NamesAfter};
-ghost use Rattle.engine.specs.Promises.{Answering, Beginning};
+ghost use Rattle.engine.specs.Promises.{answered, Answers, Begins};
 
 // The answer of an accepted call that leaves these arrays.
 fn accepted(head: &[u64], numbers: &[u64], records: usize, t: Tally) -> Answer
     requires { ⌜ (length (now head) ≡ headPlaces) × (length (now numbers) ≡ numbersSize) ⌝ }
-    ensures { λ r. ⌜ ((links searches texts : List ℕ) → r ≡ answerWith 0 records (counted t) (heldIn (tables (now (head .entry)) links searches (now (numbers .entry)) texts)) (toldBy t)) ⌝ }
+    ensures { λ r. ⌜ ((links searches texts : List ℕ) → r ≡ answerWith 0 records (counted t) (held (engine (now (head .entry)) links searches (now (numbers .entry)) texts)) (toldBy t)) ⌝ }
 {
     let timer = timer_in(head);
     let waits = waits_in(head, numbers, timer.next_salvo);
@@ -97,7 +97,7 @@ fn accepted(head: &[u64], numbers: &[u64], records: usize, t: Tally) -> Answer
 // The answer of a refused call.
 fn refused(head: &[u64], numbers: &[u64], number: u32) -> Answer
     requires { ⌜ (length (now head) ≡ headPlaces) × (length (now numbers) ≡ numbersSize) ⌝ }
-    ensures { λ r. ⌜ ((links searches texts : List ℕ) → r ≡ refusedBy number (heldIn (tables (now (head .entry)) links searches (now (numbers .entry)) texts)) .answer) ⌝ }
+    ensures { λ r. ⌜ ((links searches texts : List ℕ) → r ≡ refusedBy number (held (engine (now (head .entry)) links searches (now (numbers .entry)) texts)) .answer) ⌝ }
 {
     let timer = timer_in(head);
     let waits = waits_in(head, numbers, timer.next_salvo);
@@ -119,7 +119,7 @@ fn refused(head: &[u64], numbers: &[u64], number: u32) -> Answer
 
 // The owner's first call, on arrays of any content. A time that no call may bear is refused, and leaves an engine with that seed at time 0.
 pub fn new(head: &mut Head, numbers: &Numbers, random_seed: u32, time: u64) -> Answer
-    ensures { λ r. ⌜ ((links searches texts : List ℕ) → Beginning «random_seed» time (tables (now (head .exit)) links searches (now (numbers .entry)) texts) r) ⌝ }
+    ensures { λ r. ⌜ ((links searches texts : List ℕ) → Begins «random_seed» time (answered (engine (now (head .exit)) links searches (now (numbers .entry)) texts) r)) ⌝ }
 {
     let number = refusals::of_time(time);
     let begun = RefreshTimer::new(random_seed, time);
@@ -133,7 +133,7 @@ pub fn new(head: &mut Head, numbers: &Numbers, random_seed: u32, time: u64) -> A
 
 // Begins the refresh salvos anew, as after the network was away.
 pub fn reset_refresh_timer(head: &mut Head, numbers: &Numbers, time: u64) -> Answer
-    ensures { λ r. ⌜ ((links searches texts : List ℕ) → Answering (tables (now (head .entry)) links searches (now (numbers .entry)) texts) (ResetTimer time) [] [] (tables (now (head .exit)) links searches (now (numbers .entry)) texts) r) ⌝ }
+    ensures { λ r. ⌜ ((links searches texts : List ℕ) → Answers (engine (now (head .entry)) links searches (now (numbers .entry)) texts) (ResetTimer time) [] [] (answered (engine (now (head .exit)) links searches (now (numbers .entry)) texts) r)) ⌝ }
 {
     let number = refusals::of_time(time);
     if number != 0 {
@@ -154,7 +154,7 @@ pub fn refresh(
     texts: &Texts,
     outbox: &mut [u8],
 ) -> Answer
-    ensures { λ r. ⌜ Answering (tables (now (head .entry)) (now (links .entry)) (now (searches .entry)) (now (numbers .entry)) (now (texts .entry))) (Refresh (length (now (outbox .entry)))) (now (outbox .entry)) (now (outbox .exit)) (tables (now (head .entry)) (now (links .entry)) (now (searches .entry)) (now (numbers .entry)) (now (texts .entry))) r ⌝ }
+    ensures { λ r. ⌜ Answers (engine (now (head .entry)) (now (links .entry)) (now (searches .entry)) (now (numbers .entry)) (now (texts .entry))) (Refresh (length (now (outbox .entry)))) (now (outbox .entry)) (now (outbox .exit)) (answered (engine (now (head .entry)) (now (links .entry)) (now (searches .entry)) (now (numbers .entry)) (now (texts .entry))) r) ⌝ }
 {
     let number = refusals::of_room(outbox.len());
     if number != 0 {
@@ -175,7 +175,7 @@ pub fn subscribe(
     kind: &[u8],
     outbox: &mut [u8],
 ) -> Answer
-    ensures { λ r. ⌜ ((texts : List ℕ) → Answering (tables (now (head .entry)) (now (links .entry)) (now (searches .entry)) (now (numbers .entry)) texts) (Subscribe (now (kind .entry)) (length (now (outbox .entry)))) (now (outbox .entry)) (now (outbox .exit)) (tables (now (head .exit)) (now (links .entry)) (now (searches .exit)) (now (numbers .entry)) texts) r) ⌝ }
+    ensures { λ r. ⌜ ((texts : List ℕ) → Answers (engine (now (head .entry)) (now (links .entry)) (now (searches .entry)) (now (numbers .entry)) texts) (Subscribe (now (kind .entry)) (length (now (outbox .entry)))) (now (outbox .entry)) (now (outbox .exit)) (answered (engine (now (head .exit)) (now (links .entry)) (now (searches .exit)) (now (numbers .entry)) texts) r)) ⌝ }
 {
     let n = searches::count_of(head);
     let number = refusals::of_subscribe(n, outbox.len(), kind);
@@ -198,7 +198,7 @@ pub fn deleted_link(
     index: u32,
     outcome: u32,
 ) -> Answer
-    ensures { λ r. ⌜ ((searches texts : List ℕ) → Answering (tables (now (head .entry)) (now (links .entry)) searches (now (numbers .entry)) texts) (DeletedLink index outcome) [] [] (tables (now (head .exit)) (now (links .exit)) searches (now (numbers .entry)) texts) r) ⌝ }
+    ensures { λ r. ⌜ ((searches texts : List ℕ) → Answers (engine (now (head .entry)) (now (links .entry)) searches (now (numbers .entry)) texts) (DeletedLink index outcome) [] [] (answered (engine (now (head .exit)) (now (links .exit)) searches (now (numbers .entry)) texts) r)) ⌝ }
 {
     let number = refusals::of_deleted_link(index);
     if number != 0 {
@@ -218,7 +218,7 @@ pub fn deleted_address(
     index: u32,
     address: &[u8],
 ) -> Answer
-    ensures { λ r. ⌜ ((searches texts : List ℕ) → Answering (tables (now (head .entry)) (now (links .entry)) searches (now (numbers .entry)) texts) (DeletedAddress index (now (address .entry))) [] [] (tables (now (head .exit)) (now (links .exit)) searches (now (numbers .entry)) texts) r) ⌝ }
+    ensures { λ r. ⌜ ((searches texts : List ℕ) → Answers (engine (now (head .entry)) (now (links .entry)) searches (now (numbers .entry)) texts) (DeletedAddress index (now (address .entry))) [] [] (answered (engine (now (head .exit)) (now (links .exit)) searches (now (numbers .entry)) texts) r)) ⌝ }
 {
     let number = refusals::of_deleted_address(index, address);
     if number != 0 {
@@ -242,7 +242,7 @@ pub fn new_link(
     outcome: u32,
     outbox: &mut [u8],
 ) -> Answer
-    ensures { λ r. ⌜ Answering (tables (now (head .entry)) (now (links .entry)) (now (searches .entry)) (now (numbers .entry)) (now (texts .entry))) (NewLink index flags outcome (length (now (outbox .entry)))) (now (outbox .entry)) (now (outbox .exit)) (tables (now (head .exit)) (now (links .exit)) (now (searches .entry)) (now (numbers .entry)) (now (texts .entry))) r ⌝ }
+    ensures { λ r. ⌜ Answers (engine (now (head .entry)) (now (links .entry)) (now (searches .entry)) (now (numbers .entry)) (now (texts .entry))) (NewLink index flags outcome (length (now (outbox .entry)))) (now (outbox .entry)) (now (outbox .exit)) (answered (engine (now (head .exit)) (now (links .exit)) (now (searches .entry)) (now (numbers .entry)) (now (texts .entry))) r) ⌝ }
 {
     let held = links::held_at(head, links, index);
     let number = refusals::of_new_link(
@@ -285,7 +285,7 @@ pub fn new_address(
     address: &[u8],
     outbox: &mut [u8],
 ) -> Answer
-    ensures { λ r. ⌜ Answering (tables (now (head .entry)) (now (links .entry)) (now (searches .entry)) (now (numbers .entry)) (now (texts .entry))) (NewAddress index (now (address .entry)) (length (now (outbox .entry)))) (now (outbox .entry)) (now (outbox .exit)) (tables (now (head .exit)) (now (links .exit)) (now (searches .entry)) (now (numbers .entry)) (now (texts .entry))) r ⌝ }
+    ensures { λ r. ⌜ Answers (engine (now (head .entry)) (now (links .entry)) (now (searches .entry)) (now (numbers .entry)) (now (texts .entry))) (NewAddress index (now (address .entry)) (length (now (outbox .entry)))) (now (outbox .entry)) (now (outbox .exit)) (answered (engine (now (head .exit)) (now (links .exit)) (now (searches .entry)) (now (numbers .entry)) (now (texts .entry))) r) ⌝ }
 {
     let held = links::held_at(head, links, index);
     let link = held.link;
@@ -356,7 +356,7 @@ pub fn advertise(
     location: &[u8],
     outbox: &mut [u8],
 ) -> Answer
-    ensures { λ r. ⌜ ((searches : List ℕ) → Answering (tables (now (head .entry)) (now (links .entry)) searches (now (numbers .entry)) (now (texts .entry))) (Advertise (now (name .entry)) (now (kind .entry)) (now (location .entry)) (length (now (outbox .entry)))) (now (outbox .entry)) (now (outbox .exit)) (tables (now (head .exit)) (now (links .entry)) searches (now (numbers .exit)) (now (texts .exit))) r) ⌝ }
+    ensures { λ r. ⌜ ((searches : List ℕ) → Answers (engine (now (head .entry)) (now (links .entry)) searches (now (numbers .entry)) (now (texts .entry))) (Advertise (now (name .entry)) (now (kind .entry)) (now (location .entry)) (length (now (outbox .entry)))) (now (outbox .entry)) (now (outbox .exit)) (answered (engine (now (head .exit)) (now (links .entry)) searches (now (numbers .exit)) (now (texts .exit))) r)) ⌝ }
 {
     let spot = names::spot_of(head, numbers, texts, name);
     let count = names::count_of(head);
@@ -417,7 +417,7 @@ pub fn deadvertise(
     name: &[u8],
     outbox: &mut [u8],
 ) -> Answer
-    ensures { λ r. ⌜ ((searches : List ℕ) → Answering (tables (now (head .entry)) (now (links .entry)) searches (now (numbers .entry)) (now (texts .entry))) (Deadvertise (now (name .entry)) (length (now (outbox .entry)))) (now (outbox .entry)) (now (outbox .exit)) (tables (now (head .exit)) (now (links .entry)) searches (now (numbers .exit)) (now (texts .exit))) r) ⌝ }
+    ensures { λ r. ⌜ ((searches : List ℕ) → Answers (engine (now (head .entry)) (now (links .entry)) searches (now (numbers .entry)) (now (texts .entry))) (Deadvertise (now (name .entry)) (length (now (outbox .entry)))) (now (outbox .entry)) (now (outbox .exit)) (answered (engine (now (head .exit)) (now (links .entry)) searches (now (numbers .exit)) (now (texts .exit))) r)) ⌝ }
 {
     let number = refusals::of_room(outbox.len());
     if number != 0 {
@@ -441,7 +441,7 @@ pub fn handle_timeout(
     time: u64,
     outbox: &mut [u8],
 ) -> Answer
-    ensures { λ r. ⌜ Answering (tables (now (head .entry)) (now (links .entry)) (now (searches .entry)) (now (numbers .entry)) (now (texts .entry))) (Timeout time (length (now (outbox .entry)))) (now (outbox .entry)) (now (outbox .exit)) (tables (now (head .exit)) (now (links .entry)) (now (searches .entry)) (now (numbers .exit)) (now (texts .entry))) r ⌝ }
+    ensures { λ r. ⌜ Answers (engine (now (head .entry)) (now (links .entry)) (now (searches .entry)) (now (numbers .entry)) (now (texts .entry))) (Timeout time (length (now (outbox .entry)))) (now (outbox .entry)) (now (outbox .exit)) (answered (engine (now (head .exit)) (now (links .entry)) (now (searches .entry)) (now (numbers .exit)) (now (texts .entry))) r) ⌝ }
 {
     let number = refusals::of_timeout(time, outbox.len());
     if number != 0 {
@@ -484,7 +484,7 @@ fn on_search(
     mx: u8,
 ) -> Answer
     requires { ⌜ (length (now head) ≡ headPlaces) × NameArrays (now numbers) (now texts) × (time ≤ timeMax) × (parsed (now datagram) ≡ Search place mx) ⌝ }
-    ensures { λ r. ⌜ ((links searches : List ℕ) → Answering (tables (now (head .entry)) links searches (now (numbers .entry)) (now (texts .entry))) (Datagram time sender receiver (now (datagram .entry))) [] [] (tables (now (head .entry)) links searches (now (numbers .exit)) (now (texts .exit))) r) ⌝ }
+    ensures { λ r. ⌜ ((links searches : List ℕ) → Answers (engine (now (head .entry)) links searches (now (numbers .entry)) (now (texts .entry))) (Datagram time sender receiver (now (datagram .entry))) [] [] (answered (engine (now (head .entry)) links searches (now (numbers .exit)) (now (texts .exit))) r)) ⌝ }
 {
     let target = message::field(datagram, place);
     let number = refusals::of_search(time, mx, target.len());
@@ -517,7 +517,7 @@ fn on_notice(
     kind: Place,
 ) -> Answer
     requires { ⌜ SearchArrays (now head) (now searches) × (length (now numbers) ≡ numbersSize) × (time ≤ timeMax) × (readingOf (parsed (now datagram)) ≡ Of (Notice kind)) ⌝ }
-    ensures { λ r. ⌜ ((links texts : List ℕ) → Answering (tables (now (head .entry)) links (now (searches .entry)) (now (numbers .entry)) texts) (Datagram time sender receiver (now (datagram .entry))) [] [] (tables (now (head .entry)) links (now (searches .entry)) (now (numbers .entry)) texts) r) ⌝ }
+    ensures { λ r. ⌜ ((links texts : List ℕ) → Answers (engine (now (head .entry)) links (now (searches .entry)) (now (numbers .entry)) texts) (Datagram time sender receiver (now (datagram .entry))) [] [] (answered (engine (now (head .entry)) links (now (searches .entry)) (now (numbers .entry)) texts) r)) ⌝ }
 {
     let told = searches::told_of(head, searches, message::field(datagram, kind));
     accepted(head, numbers, 0, telling(told))
@@ -534,7 +534,7 @@ pub fn on_data(
     receiver: u32,
     datagram: &[u8],
 ) -> Answer
-    ensures { λ r. ⌜ ((links : List ℕ) → Answering (tables (now (head .entry)) links (now (searches .entry)) (now (numbers .entry)) (now (texts .entry))) (Datagram time sender receiver (now (datagram .entry))) [] [] (tables (now (head .entry)) links (now (searches .entry)) (now (numbers .exit)) (now (texts .exit))) r) ⌝ }
+    ensures { λ r. ⌜ ((links : List ℕ) → Answers (engine (now (head .entry)) links (now (searches .entry)) (now (numbers .entry)) (now (texts .entry))) (Datagram time sender receiver (now (datagram .entry))) [] [] (answered (engine (now (head .entry)) links (now (searches .entry)) (now (numbers .exit)) (now (texts .exit))) r)) ⌝ }
 {
     if refusals::TIME_MAX < time {
         return refused(head, numbers, refusals::TIME_LATE);

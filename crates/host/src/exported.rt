@@ -12,8 +12,8 @@ ghost use mathlib.Core.List.{List, []};
 ghost use Prim.Native.Nat.{ℕ};
 ghost use lib.ListN.{length};
 ghost use Rattle.engine.specs.Calls.{NewLink, DeletedLink, NewAddress, DeletedAddress, Subscribe, Advertise, Deadvertise, Refresh, Datagram, Timeout, ResetTimer};
-ghost use Rattle.engine.specs.Arrays.{tables};
-ghost use Rattle.engine.specs.Promises.{Answering, Beginning};
+ghost use Rattle.engine.specs.Arrays.{engine};
+ghost use Rattle.engine.specs.Promises.{answered, Answers, Begins};
 
 // Makes an engine in the lent arrays, whatever they hold; refused, one of that seed at time 0.
 #[no_mangle]
@@ -23,7 +23,7 @@ pub extern "C" fn kohlsilk_lent_new(
     random_seed: u32,
     time: u64,
 ) -> Answer
-    ensures { λ r. ⌜ ((links searches texts : List ℕ) → Beginning «random_seed» time (tables (now (head .exit)) links searches (now (numbers .entry)) texts) r) ⌝ }
+    ensures { λ r. ⌜ ((links searches texts : List ℕ) → Begins «random_seed» time (answered (engine (now (head .exit)) links searches (now (numbers .entry)) texts) r)) ⌝ }
 {
     calls::new(head, numbers, random_seed, time)
 }
@@ -41,7 +41,7 @@ pub extern "C" fn kohlsilk_lent_new_link(
     outcome: u32,
     outbox: &mut [u8],
 ) -> Answer
-    ensures { λ r. ⌜ Answering (tables (now (head .entry)) (now (links .entry)) (now (searches .entry)) (now (numbers .entry)) (now (texts .entry))) (NewLink index flags outcome (length (now (outbox .entry)))) (now (outbox .entry)) (now (outbox .exit)) (tables (now (head .exit)) (now (links .exit)) (now (searches .entry)) (now (numbers .entry)) (now (texts .entry))) r ⌝ }
+    ensures { λ r. ⌜ Answers (engine (now (head .entry)) (now (links .entry)) (now (searches .entry)) (now (numbers .entry)) (now (texts .entry))) (NewLink index flags outcome (length (now (outbox .entry)))) (now (outbox .entry)) (now (outbox .exit)) (answered (engine (now (head .exit)) (now (links .exit)) (now (searches .entry)) (now (numbers .entry)) (now (texts .entry))) r) ⌝ }
 {
     calls::new_link(
         head,
@@ -65,7 +65,7 @@ pub extern "C" fn kohlsilk_lent_deleted_link(
     index: u32,
     outcome: u32,
 ) -> Answer
-    ensures { λ r. ⌜ ((searches texts : List ℕ) → Answering (tables (now (head .entry)) (now (links .entry)) searches (now (numbers .entry)) texts) (DeletedLink index outcome) [] [] (tables (now (head .exit)) (now (links .exit)) searches (now (numbers .entry)) texts) r) ⌝ }
+    ensures { λ r. ⌜ ((searches texts : List ℕ) → Answers (engine (now (head .entry)) (now (links .entry)) searches (now (numbers .entry)) texts) (DeletedLink index outcome) [] [] (answered (engine (now (head .exit)) (now (links .exit)) searches (now (numbers .entry)) texts) r)) ⌝ }
 {
     calls::deleted_link(head, links, numbers, index, outcome)
 }
@@ -82,7 +82,7 @@ pub extern "C" fn kohlsilk_lent_new_address(
     address: &[u8],
     outbox: &mut [u8],
 ) -> Answer
-    ensures { λ r. ⌜ Answering (tables (now (head .entry)) (now (links .entry)) (now (searches .entry)) (now (numbers .entry)) (now (texts .entry))) (NewAddress index (now (address .entry)) (length (now (outbox .entry)))) (now (outbox .entry)) (now (outbox .exit)) (tables (now (head .exit)) (now (links .exit)) (now (searches .entry)) (now (numbers .entry)) (now (texts .entry))) r ⌝ }
+    ensures { λ r. ⌜ Answers (engine (now (head .entry)) (now (links .entry)) (now (searches .entry)) (now (numbers .entry)) (now (texts .entry))) (NewAddress index (now (address .entry)) (length (now (outbox .entry)))) (now (outbox .entry)) (now (outbox .exit)) (answered (engine (now (head .exit)) (now (links .exit)) (now (searches .entry)) (now (numbers .entry)) (now (texts .entry))) r) ⌝ }
 {
     calls::new_address(
         head,
@@ -105,7 +105,7 @@ pub extern "C" fn kohlsilk_lent_deleted_address(
     index: u32,
     address: &[u8],
 ) -> Answer
-    ensures { λ r. ⌜ ((searches texts : List ℕ) → Answering (tables (now (head .entry)) (now (links .entry)) searches (now (numbers .entry)) texts) (DeletedAddress index (now (address .entry))) [] [] (tables (now (head .exit)) (now (links .exit)) searches (now (numbers .entry)) texts) r) ⌝ }
+    ensures { λ r. ⌜ ((searches texts : List ℕ) → Answers (engine (now (head .entry)) (now (links .entry)) searches (now (numbers .entry)) texts) (DeletedAddress index (now (address .entry))) [] [] (answered (engine (now (head .exit)) (now (links .exit)) searches (now (numbers .entry)) texts) r)) ⌝ }
 {
     calls::deleted_address(head, links, numbers, index, address)
 }
@@ -120,7 +120,7 @@ pub extern "C" fn kohlsilk_lent_subscribe(
     kind: &[u8],
     outbox: &mut [u8],
 ) -> Answer
-    ensures { λ r. ⌜ ((texts : List ℕ) → Answering (tables (now (head .entry)) (now (links .entry)) (now (searches .entry)) (now (numbers .entry)) texts) (Subscribe (now (kind .entry)) (length (now (outbox .entry)))) (now (outbox .entry)) (now (outbox .exit)) (tables (now (head .exit)) (now (links .entry)) (now (searches .exit)) (now (numbers .entry)) texts) r) ⌝ }
+    ensures { λ r. ⌜ ((texts : List ℕ) → Answers (engine (now (head .entry)) (now (links .entry)) (now (searches .entry)) (now (numbers .entry)) texts) (Subscribe (now (kind .entry)) (length (now (outbox .entry)))) (now (outbox .entry)) (now (outbox .exit)) (answered (engine (now (head .exit)) (now (links .entry)) (now (searches .exit)) (now (numbers .entry)) texts) r)) ⌝ }
 {
     calls::subscribe(head, links, searches, numbers, kind, outbox)
 }
@@ -137,7 +137,7 @@ pub extern "C" fn kohlsilk_lent_advertise(
     location: &[u8],
     outbox: &mut [u8],
 ) -> Answer
-    ensures { λ r. ⌜ ((searches : List ℕ) → Answering (tables (now (head .entry)) (now (links .entry)) searches (now (numbers .entry)) (now (texts .entry))) (Advertise (now (name .entry)) (now (kind .entry)) (now (location .entry)) (length (now (outbox .entry)))) (now (outbox .entry)) (now (outbox .exit)) (tables (now (head .exit)) (now (links .entry)) searches (now (numbers .exit)) (now (texts .exit))) r) ⌝ }
+    ensures { λ r. ⌜ ((searches : List ℕ) → Answers (engine (now (head .entry)) (now (links .entry)) searches (now (numbers .entry)) (now (texts .entry))) (Advertise (now (name .entry)) (now (kind .entry)) (now (location .entry)) (length (now (outbox .entry)))) (now (outbox .entry)) (now (outbox .exit)) (answered (engine (now (head .exit)) (now (links .entry)) searches (now (numbers .exit)) (now (texts .exit))) r)) ⌝ }
 {
     calls::advertise(head, links, numbers, texts, name, kind, location, outbox)
 }
@@ -152,7 +152,7 @@ pub extern "C" fn kohlsilk_lent_deadvertise(
     name: &[u8],
     outbox: &mut [u8],
 ) -> Answer
-    ensures { λ r. ⌜ ((searches : List ℕ) → Answering (tables (now (head .entry)) (now (links .entry)) searches (now (numbers .entry)) (now (texts .entry))) (Deadvertise (now (name .entry)) (length (now (outbox .entry)))) (now (outbox .entry)) (now (outbox .exit)) (tables (now (head .exit)) (now (links .entry)) searches (now (numbers .exit)) (now (texts .exit))) r) ⌝ }
+    ensures { λ r. ⌜ ((searches : List ℕ) → Answers (engine (now (head .entry)) (now (links .entry)) searches (now (numbers .entry)) (now (texts .entry))) (Deadvertise (now (name .entry)) (length (now (outbox .entry)))) (now (outbox .entry)) (now (outbox .exit)) (answered (engine (now (head .exit)) (now (links .entry)) searches (now (numbers .exit)) (now (texts .exit))) r)) ⌝ }
 {
     calls::deadvertise(head, links, numbers, texts, name, outbox)
 }
@@ -167,7 +167,7 @@ pub extern "C" fn kohlsilk_lent_refresh(
     texts: &Texts,
     outbox: &mut [u8],
 ) -> Answer
-    ensures { λ r. ⌜ Answering (tables (now (head .entry)) (now (links .entry)) (now (searches .entry)) (now (numbers .entry)) (now (texts .entry))) (Refresh (length (now (outbox .entry)))) (now (outbox .entry)) (now (outbox .exit)) (tables (now (head .entry)) (now (links .entry)) (now (searches .entry)) (now (numbers .entry)) (now (texts .entry))) r ⌝ }
+    ensures { λ r. ⌜ Answers (engine (now (head .entry)) (now (links .entry)) (now (searches .entry)) (now (numbers .entry)) (now (texts .entry))) (Refresh (length (now (outbox .entry)))) (now (outbox .entry)) (now (outbox .exit)) (answered (engine (now (head .entry)) (now (links .entry)) (now (searches .entry)) (now (numbers .entry)) (now (texts .entry))) r) ⌝ }
 {
     calls::refresh(head, links, searches, numbers, texts, outbox)
 }
@@ -185,7 +185,7 @@ pub extern "C" fn kohlsilk_lent_on_data(
     receiver: u32,
     datagram: &[u8],
 ) -> Answer
-    ensures { λ r. ⌜ ((links : List ℕ) → Answering (tables (now (head .entry)) links (now (searches .entry)) (now (numbers .entry)) (now (texts .entry))) (Datagram time (record { address = sender; port = port }) receiver (now (datagram .entry))) [] [] (tables (now (head .entry)) links (now (searches .entry)) (now (numbers .exit)) (now (texts .exit))) r) ⌝ }
+    ensures { λ r. ⌜ ((links : List ℕ) → Answers (engine (now (head .entry)) links (now (searches .entry)) (now (numbers .entry)) (now (texts .entry))) (Datagram time (record { address = sender; port = port }) receiver (now (datagram .entry))) [] [] (answered (engine (now (head .entry)) links (now (searches .entry)) (now (numbers .exit)) (now (texts .exit))) r)) ⌝ }
 {
     let from = Endpoint {
         address: sender,
@@ -214,7 +214,7 @@ pub extern "C" fn kohlsilk_lent_handle_timeout(
     time: u64,
     outbox: &mut [u8],
 ) -> Answer
-    ensures { λ r. ⌜ Answering (tables (now (head .entry)) (now (links .entry)) (now (searches .entry)) (now (numbers .entry)) (now (texts .entry))) (Timeout time (length (now (outbox .entry)))) (now (outbox .entry)) (now (outbox .exit)) (tables (now (head .exit)) (now (links .entry)) (now (searches .entry)) (now (numbers .exit)) (now (texts .entry))) r ⌝ }
+    ensures { λ r. ⌜ Answers (engine (now (head .entry)) (now (links .entry)) (now (searches .entry)) (now (numbers .entry)) (now (texts .entry))) (Timeout time (length (now (outbox .entry)))) (now (outbox .entry)) (now (outbox .exit)) (answered (engine (now (head .exit)) (now (links .entry)) (now (searches .entry)) (now (numbers .exit)) (now (texts .entry))) r) ⌝ }
 {
     calls::handle_timeout(head, links, searches, numbers, texts, time, outbox)
 }
@@ -226,7 +226,7 @@ pub extern "C" fn kohlsilk_lent_reset_refresh_timer(
     numbers: &Numbers,
     time: u64,
 ) -> Answer
-    ensures { λ r. ⌜ ((links searches texts : List ℕ) → Answering (tables (now (head .entry)) links searches (now (numbers .entry)) texts) (ResetTimer time) [] [] (tables (now (head .exit)) links searches (now (numbers .entry)) texts) r) ⌝ }
+    ensures { λ r. ⌜ ((links searches texts : List ℕ) → Answers (engine (now (head .entry)) links searches (now (numbers .entry)) texts) (ResetTimer time) [] [] (answered (engine (now (head .exit)) links searches (now (numbers .entry)) texts) r)) ⌝ }
 {
     calls::reset_refresh_timer(head, numbers, time)
 }

@@ -18,7 +18,7 @@ returns c =
     λ links searches texts.
     let n = c .before .before .new .ensures links searches texts in
     record {
-      begins = record { answer = h .2 ∙ n .answer; tables = n .tables };
+      begins = record { answer = h .2 ∙ n .answer; engine = n .engine };
       begun = h .0 ∙ ap (λ (a : Answer). eqb (a .refusal) 0) (sym (h .2));
       heard = h .1;
       kept = refl;

@@ -27,7 +27,7 @@ returns : tie.Need-returns
 returns c =
     λ links searches texts line outbox. first-unheard (c .before .before .args .command)
     (λ seed time p. miss others 1 tt (subst (λ (k : Command). OneOf others (tagOf the-type k)) p (c .before .match .keys2)))
-    line (length outbox) (record { tables = refl; still = c .unheard .ensures .0; heard = c .unheard .ensures .1; kept = refl })
+    line (length outbox) (record { engine = refl; still = c .unheard .ensures .0; heard = c .unheard .ensures .1; kept = refl })
 
 begin-requires : tie.Need-begin-requires
 begin-requires c κs = search needs

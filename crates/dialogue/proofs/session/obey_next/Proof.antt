@@ -184,19 +184,19 @@ returns : tie.Need-returns
 unfolding asked
 returns c =
     let a = c .before .before .before .before .before .args in
-    obeyed (a .line .now) (length (a .outbox .now)) (c .before .enum-told .given .1) refl (record { tables = refl; still = c .unheard .ensures .0; heard = c .unheard .ensures .1; kept = refl })
+    obeyed (a .line .now) (length (a .outbox .now)) (c .before .enum-told .given .1) refl (record { engine = refl; still = c .unheard .ensures .0; heard = c .unheard .ensures .1; kept = refl })
 
 returns-2 : tie.Need-returns-2
 unfolding asked
 returns-2 c =
     let a = c .before .before .before .before .before .args in
-    obeyed (a .line .now) (length (a .outbox .now)) (c .before .enum-told2 .given .1) refl (record { tables = refl; still = c .unheard2 .ensures .0; heard = c .unheard2 .ensures .1; kept = refl })
+    obeyed (a .line .now) (length (a .outbox .now)) (c .before .enum-told2 .given .1) refl (record { engine = refl; still = c .unheard2 .ensures .0; heard = c .unheard2 .ensures .1; kept = refl })
 
 returns-3 : tie.Need-returns-3
 unfolding asked
 returns-3 c =
     let a = c .before .before .before .before .before .args in
-    obeyed (a .line .now) (length (a .outbox .now)) (c .before .enum-told3 .given .1) refl (record { tables = refl; still = c .unheard3 .ensures .0; heard = c .unheard3 .ensures .1; kept = refl })
+    obeyed (a .line .now) (length (a .outbox .now)) (c .before .enum-told3 .given .1) refl (record { engine = refl; still = c .unheard3 .ensures .0; heard = c .unheard3 .ensures .1; kept = refl })
 
 same-length : tie.Need-same-length
 same-length c = search needs

@@ -2,7 +2,7 @@
 use mathlib.Core.Path.{_∙_, _≡_, ap, refl, sym}
 use mathlib.Core.List.{[]}
 use Rattle.engine.proofs.Accepted.{passed}
-use Rattle.engine.specs.Arrays.{headPlaces, heldIn, linksIn, numbersSize, tables, textsSize}
+use Rattle.engine.specs.Arrays.{headPlaces, held, linksIn, numbersSize, engine, textsSize}
 use Rattle.engine.specs.Calls.{Deadvertise, acts}
 use Rattle.engine.specs.Engine.{namesOf, tells, turned}
 use Rattle.engine.specs.Links.{contextAfter, upAddresses}
@@ -31,7 +31,7 @@ returns c searches =
     let at-if1 = c .before .before .before .before .before in
     let at-of-room = at-if1 .before in
     let a = at-of-room .before .before .before .args in
-    lending.refused-answers (tables (a .head .now) (a .links .now) searches (a .numbers .now) (a .texts .now)) (Deadvertise (a .name .now) (length (a .outbox .now))) _ _ (at-of-room .of-room .result) (sym (at-of-room .of-room .ensures _ _ refl .1 (a .name .now))) (at-if1 .if1 .taken) (c .refused .ensures _ searches _)
+    lending.refused-answers (engine (a .head .now) (a .links .now) searches (a .numbers .now) (a .texts .now)) (Deadvertise (a .name .now) (length (a .outbox .now))) _ _ (at-of-room .of-room .result) (sym (at-of-room .of-room .ensures _ _ refl .1 (a .name .now))) (at-if1 .if1 .taken) (c .refused .ensures _ searches _)
 
 spot-of-requires : tie.Need-spot-of-requires
 spot-of-requires c κs = search needs
@@ -45,9 +45,9 @@ byebye-if-requires c κs =
     let at-if1 = at-spot-of .before .before .before .before .before .before .before in
     let at-of-room = at-if1 .before in
     let a = at-of-room .before .before .before .args in
-    let t = tables (a .head .now) (a .links .now) [] (a .numbers .now) (a .texts .now) in
+    let t = engine (a .head .now) (a .links .now) [] (a .numbers .now) (a .texts .now) in
     let call = Deadvertise (a .name .now) (length (a .outbox .now)) in
-    let p = passed (heldIn t .context) (namesOf (heldIn t) call) call (sym (at-of-room .of-room .ensures _ _ refl .1 (a .name .now)) ∙ at-if1 .if1 .left) in
+    let p = passed (held t .context) (namesOf (held t) call) call (sym (at-of-room .of-room .ensures _ _ refl .1 (a .name .now)) ∙ at-if1 .if1 .left) in
     let at = lending.spot-lt (a .head .now) (a .numbers .now) (a .texts .now) (a .name .now) (at-spot-of .spot-of .result) (at-spot-of .spot-of .ensures) in (
       (omega (arith, at-byebye-if-arg3 .byebye-if-arg3 .given .0), omega (arith, at-byebye-if-arg4 .byebye-if-arg4 .given .0)),
       (omega (arith, c .before .before .byebye-if-arg6 .given .0), omega (arith, c .byebye-if-arg8 .given .0)),
@@ -83,7 +83,7 @@ same-length : tie.Need-same-length
 same-length c = c .before .before .before .before .before .before .before .before .before .before .before .before .before .before .before .before .before .before .byebye-if .kept .0
 
 returns-2 : tie.Need-returns-2
-unfolding turned namesOf heldIn contextAfter acts results records tells result checks
+unfolding turned namesOf held contextAfter acts results records tells result checks
 returns-2 c searches =
     let at-set-count = c .before .before .before .before .before .before in
     let at-leave = at-set-count .before .before in
@@ -95,7 +95,7 @@ returns-2 c searches =
     let at-of-room = at-if1 .before in
     let a = at-of-room .before .before .before .args in
     let size : length (a .head .now) ≡ headPlaces = omega (arith, at-spot-of-arg2 .spot-of-arg2 .given .0) in
-    lending.done-answers (tables (a .head .now) (a .links .now) searches (a .numbers .now) (a .texts .now)) _ (Deadvertise (a .name .now) (length (a .outbox .now))) (at-byebye-if .byebye-if .result) _ _ (sym (at-of-room .of-room .ensures _ _ refl .1 (a .name .now)) ∙ at-if1 .if1 .left)
+    lending.done-answers (engine (a .head .now) (a .links .now) searches (a .numbers .now) (a .texts .now)) _ (Deadvertise (a .name .now) (length (a .outbox .now))) (at-byebye-if .byebye-if .result) _ _ (sym (at-of-room .of-room .ensures _ _ refl .1 (a .name .now)) ∙ at-if1 .if1 .left)
     (lending.names-changed (a .head .now) (a .links .now) searches (a .numbers .now) (a .texts .now) size (at-leave .leave .result) _ (at-set-count .set-count .ensures) (at-leave .leave .ensures (a .name .now) (at-spot-of .spot-of .ensures)))
     (c .before .dropping .ensures .0 ∙ ap drops (at-dropped-at .dropped-at .ensures ∙ lending.dropped-is (a .head .now) (a .numbers .now) (a .texts .now) (a .name .now) (at-spot-of .spot-of .result) (at-spot-of .spot-of .ensures)) ∙ sym (answering.plus-zeros (drops _))) (c .before .dropping .ensures .1)
     (answering.sent-as (at-byebye-if .byebye-if .ensures) (lending.byebyes-are (a .head .now) (a .numbers .now) (a .texts .now) (a .name .now) (at-spot-of .spot-of .result) (at-spot-of .spot-of .ensures) (upAddresses (linksIn (a .head .now) (a .links .now)))))

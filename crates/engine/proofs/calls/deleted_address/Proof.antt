@@ -1,7 +1,7 @@
 -- `calls::deleted_address` meets its contract: refused, or with the links after the news.
 use mathlib.Core.Path.{_∙_, _≡_, sym}
 use mathlib.Core.List.{[]}
-use Rattle.engine.specs.Arrays.{headPlaces, heldIn, tables}
+use Rattle.engine.specs.Arrays.{headPlaces, held, engine}
 use Rattle.engine.specs.Calls.{DeletedAddress, acts}
 use Rattle.engine.specs.Engine.{namesOf, tells, turned}
 use Rattle.engine.specs.Links.{contextAfter}
@@ -27,7 +27,7 @@ returns c searches texts =
     let at-if1 = c .before .before .before .before in
     let at-of-deleted-address = at-if1 .before in
     let a = at-of-deleted-address .before .before .args in
-    lending.refused-answers (tables (a .head .now) (a .links .now) searches (a .numbers .now) texts) (DeletedAddress (a .index) (a .address .now)) [] _ (at-of-deleted-address .of-deleted-address .result) (sym (at-of-deleted-address .of-deleted-address .ensures _ _)) (at-if1 .if1 .taken) (c .refused .ensures _ searches texts)
+    lending.refused-answers (engine (a .head .now) (a .links .now) searches (a .numbers .now) texts) (DeletedAddress (a .index) (a .address .now)) [] _ (at-of-deleted-address .of-deleted-address .result) (sym (at-of-deleted-address .of-deleted-address .ensures _ _)) (at-if1 .if1 .taken) (c .refused .ensures _ searches texts)
 
 held-at-requires : tie.Need-held-at-requires
 held-at-requires c κs = search needs
@@ -45,7 +45,7 @@ accepted-requires : tie.Need-accepted-requires
 accepted-requires c κs = search needs
 
 returns-2 : tie.Need-returns-2
-unfolding turned namesOf heldIn contextAfter acts results records tells
+unfolding turned namesOf held contextAfter acts results records tells
 returns-2 c searches texts =
     let at-set-count = c .before .before .before .before .before in
     let at-address-gone = at-set-count .before .before in
@@ -54,7 +54,7 @@ returns-2 c searches texts =
     let at-of-deleted-address = at-if1 .before in
     let a = at-of-deleted-address .before .before .args in
     let size : length (a .head .now) ≡ headPlaces = omega arith in
-    lending.done-answers (tables (a .head .now) (a .links .now) searches (a .numbers .now) texts) _ (DeletedAddress (a .index) (a .address .now)) 0 _ _ (sym (at-of-deleted-address .of-deleted-address .ensures _ _) ∙ at-if1 .if1 .left)
+    lending.done-answers (engine (a .head .now) (a .links .now) searches (a .numbers .now) texts) _ (DeletedAddress (a .index) (a .address .now)) 0 _ _ (sym (at-of-deleted-address .of-deleted-address .ensures _ _) ∙ at-if1 .if1 .left)
     (lending.links-changed (a .head .now) (a .links .now) searches (a .numbers .now) texts size (at-address-gone .address-gone .result) _ (at-set-count .set-count .ensures) (at-address-gone .address-gone .ensures (a .index) (at-held-at .held-at .ensures)))
     (c .before .nothing .ensures .0) (c .before .nothing .ensures .1) answering.sent-none (c .accepted .ensures _ searches texts)
 

@@ -2,7 +2,7 @@
 use mathlib.Core.Path.{_∙_, _≡_, ap, sym}
 use mathlib.Core.Bool.{Bool, cond}
 use mathlib.Core.List.{[]}
-use Rattle.engine.specs.Arrays.{headPlaces, heldIn, tables}
+use Rattle.engine.specs.Arrays.{headPlaces, held, engine}
 use Rattle.engine.specs.Calls.{DeletedLink, acts}
 use Rattle.engine.specs.Engine.{namesOf, tells, turned}
 use Rattle.engine.specs.Links.{contextAfter}
@@ -29,7 +29,7 @@ returns c searches texts =
     let at-if1 = c .before .before .before .before in
     let at-of-deleted-link = at-if1 .before in
     let a = at-of-deleted-link .before .args in
-    lending.refused-answers (tables (a .head .now) (a .links .now) searches (a .numbers .now) texts) (DeletedLink (a .index) (a .outcome)) [] _ (at-of-deleted-link .of-deleted-link .result) (sym (at-of-deleted-link .of-deleted-link .ensures _ _ _)) (at-if1 .if1 .taken) (c .refused .ensures _ searches texts)
+    lending.refused-answers (engine (a .head .now) (a .links .now) searches (a .numbers .now) texts) (DeletedLink (a .index) (a .outcome)) [] _ (at-of-deleted-link .of-deleted-link .result) (sym (at-of-deleted-link .of-deleted-link .ensures _ _ _)) (at-if1 .if1 .taken) (c .refused .ensures _ searches texts)
 
 spot-of-requires : tie.Need-spot-of-requires
 spot-of-requires c κs = search needs
@@ -47,7 +47,7 @@ accepted-requires : tie.Need-accepted-requires
 accepted-requires c κs = search needs
 
 returns-2 : tie.Need-returns-2
-unfolding turned namesOf heldIn contextAfter acts results records tells
+unfolding turned namesOf held contextAfter acts results records tells
 returns-2 c searches texts =
     let at-set-count = c .before .before .before .before .before in
     let at-left = at-set-count .before .before in
@@ -56,7 +56,7 @@ returns-2 c searches texts =
     let at-of-deleted-link = at-if1 .before in
     let a = at-of-deleted-link .before .args in
     let size : length (a .head .now) ≡ headPlaces = omega arith in
-    lending.done-answers (tables (a .head .now) (a .links .now) searches (a .numbers .now) texts) _ (DeletedLink (a .index) (a .outcome)) 0 _ _ (sym (at-of-deleted-link .of-deleted-link .ensures _ _ _) ∙ at-if1 .if1 .left)
+    lending.done-answers (engine (a .head .now) (a .links .now) searches (a .numbers .now) texts) _ (DeletedLink (a .index) (a .outcome)) 0 _ _ (sym (at-of-deleted-link .of-deleted-link .ensures _ _ _) ∙ at-if1 .if1 .left)
     (lending.links-changed (a .head .now) (a .links .now) searches (a .numbers .now) texts size (at-left .left .result) _ (at-set-count .set-count .ensures) (at-left .left .ensures))
     (c .before .leaving .ensures .0) (c .before .leaving .ensures .1 ∙ ap (λ (b : Bool). leaves (cond b (a .outcome) 0)) (at-spot-of .spot-of .ensures .known)) answering.sent-none (c .accepted .ensures _ searches texts)
 

@@ -5,7 +5,7 @@ use Prim.Native.Nat.{_≤_, _<_}
 use Rattle.engine.proofs.Accepted.{passed}
 use Rattle.engine.proofs.NothingDue.{idle-done, idle-counts, idle-sent}
 use Rattle.engine.proofs.Timer.{timer-accepted}
-use Rattle.engine.specs.Arrays.{headPlaces, heldIn, linksIn, namesIn, searchesIn, seedIn, tables, timerIn}
+use Rattle.engine.specs.Arrays.{headPlaces, held, linksIn, namesIn, searchesIn, seedIn, engine, timerIn}
 use Rattle.engine.specs.Calls.{Timeout, acts}
 use Rattle.engine.specs.Engine.{namesOf, poll, tells, turned}
 use Rattle.engine.specs.Held.{Advertisement, holding}
@@ -40,7 +40,7 @@ returns c =
     let at-if1 = c .before .before .before .before .before in
     let at-of-timeout = at-if1 .before in
     let a = at-of-timeout .before .before .args in
-    lending.refused-answers (tables (a .head .now) (a .links .now) (a .searches .now) (a .numbers .now) (a .texts .now)) (Timeout (a .time) (length (a .outbox .now))) _ _ (at-of-timeout .of-timeout .result) (sym (at-of-timeout .of-timeout .ensures _ _ refl)) (at-if1 .if1 .taken) (c .refused .ensures _ _ _)
+    lending.refused-answers (engine (a .head .now) (a .links .now) (a .searches .now) (a .numbers .now) (a .texts .now)) (Timeout (a .time) (length (a .outbox .now))) _ _ (at-of-timeout .of-timeout .result) (sym (at-of-timeout .of-timeout .ensures _ _ refl)) (at-if1 .if1 .taken) (c .refused .ensures _ _ _)
 
 nothing-requires : tie.Need-nothing-requires
 nothing-requires c κs = search needs
@@ -56,12 +56,12 @@ returns-2 c =
     let at-if1 = at-nothing .before .before .before .before .before in
     let at-of-timeout = at-if1 .before in
     let a = at-of-timeout .before .before .args in
-    let t = tables (a .head .now) (a .links .now) (a .searches .now) (a .numbers .now) (a .texts .now) in
+    let t = engine (a .head .now) (a .links .now) (a .searches .now) (a .numbers .now) (a .texts .now) in
     let room = length (a .outbox .now) in
     let answer = at-accepted .accepted .ensures (a .links .now) (a .searches .now) (a .texts .now) in
-    let early : a .time < poll (heldIn t) = omega (arith, c .if2 .taken, ap (λ (x : Answer). x .poll) answer) in
-    lending.done-answers t t (Timeout (a .time) room) 0 _ _ (sym (at-of-timeout .of-timeout .ensures _ _ refl) ∙ at-if1 .if1 .left) (idle-done (heldIn t) (a .time) room early)
-    (at-nothing .nothing .ensures .0 ∙ idle-counts (heldIn t) (a .time) room early) (at-nothing .nothing .ensures .1) (idle-sent (heldIn t) (a .time) room (a .outbox .now) early) answer
+    let early : a .time < poll (held t) = omega (arith, c .if2 .taken, ap (λ (x : Answer). x .poll) answer) in
+    lending.done-answers t t (Timeout (a .time) room) 0 _ _ (sym (at-of-timeout .of-timeout .ensures _ _ refl) ∙ at-if1 .if1 .left) (idle-done (held t) (a .time) room early)
+    (at-nothing .nothing .ensures .0 ∙ idle-counts (held t) (a .time) room early) (at-nothing .nothing .ensures .1) (idle-sent (held t) (a .time) room (a .outbox .now) early) answer
 
 of-up-links-requires : tie.Need-of-up-links-requires
 of-up-links-requires c κs = search needs
@@ -75,9 +75,9 @@ send-timeout-requires c κs =
     let at-if1 = c .before .before .before .before .before .before .before .before .before .before .before .before .before .before .before .before .before .before .before .before .before .before .before .before in
     let at-of-timeout = at-if1 .before in
     let a = at-of-timeout .before .before .args in
-    let t = tables (a .head .now) (a .links .now) (a .searches .now) (a .numbers .now) (a .texts .now) in
+    let t = engine (a .head .now) (a .links .now) (a .searches .now) (a .numbers .now) (a .texts .now) in
     let call = Timeout (a .time) (length (a .outbox .now)) in
-    let p = passed (heldIn t .context) (namesOf (heldIn t) call) call (sym (at-of-timeout .of-timeout .ensures _ _ refl) ∙ at-if1 .if1 .left) in
+    let p = passed (held t .context) (namesOf (held t) call) call (sym (at-of-timeout .of-timeout .ensures _ _ refl) ∙ at-if1 .if1 .left) in
     let room : outboxSize ≤ length (a .outbox .now) = omega (arith, ltb-false (length (a .outbox .now)) outboxSize (p .1 .0)) in
     search needs
 
@@ -100,7 +100,7 @@ same-length : tie.Need-same-length
 same-length c = c .before .before .before .before .before .before .before .before .before .before .before .before .before .before .before .send-timeout .kept .0
 
 returns-3 : tie.Need-returns-3
-unfolding turned namesOf heldIn contextAfter acts results records tells result checks refreshRecords
+unfolding turned namesOf held contextAfter acts results records tells result checks refreshRecords
 returns-3 c =
     let at-set-timer = c .before .before .before .before .before .before in
     let at-rolled = at-set-timer .before in
@@ -113,9 +113,9 @@ returns-3 c =
     let at-of-timeout = at-if1 .before in
     let a = at-of-timeout .before .before .args in
     let size : length (a .head .now) ≡ headPlaces = omega (arith, at-timer-in-arg2 .timer-in-arg2 .given .0) in
-    let t = tables (a .head .now) (a .links .now) (a .searches .now) (a .numbers .now) (a .texts .now) in
+    let t = engine (a .head .now) (a .links .now) (a .searches .now) (a .numbers .now) (a .texts .now) in
     let call = Timeout (a .time) (length (a .outbox .now)) in
-    let p = passed (heldIn t .context) (namesOf (heldIn t) call) call (sym (at-of-timeout .of-timeout .ensures _ _ refl) ∙ at-if1 .if1 .left) in
+    let p = passed (held t .context) (namesOf (held t) call) call (sym (at-of-timeout .of-timeout .ensures _ _ refl) ∙ at-if1 .if1 .left) in
     let head = a .head .now in
     let names = namesIn head (a .numbers .now) (a .texts .now) in
     let time : a .time ≤ timeMax = omega (arith, ltb-false timeMax (a .time) (p .0)) in

@@ -4,7 +4,7 @@ use mathlib.Core.Bool.{_&&_, cond}
 use mathlib.Core.List.{[]}
 use Prim.Native.Nat.{_≤_}
 use Rattle.engine.proofs.Accepted.{passed}
-use Rattle.engine.specs.Arrays.{headPlaces, heldIn, linksIn, namesIn, searchesIn, tables}
+use Rattle.engine.specs.Arrays.{headPlaces, held, linksIn, namesIn, searchesIn, engine}
 use Rattle.engine.specs.Calls.{NewAddress, acts}
 use Rattle.engine.specs.Engine.{namesOf, tells, turned}
 use Rattle.engine.specs.Links.{contextAfter}
@@ -37,7 +37,7 @@ refused-requires : tie.Need-refused-requires
 refused-requires c κs = search needs
 
 returns : tie.Need-returns
-unfolding turned namesOf heldIn
+unfolding turned namesOf held
 returns c =
     let at-if1 = c .before .before .before .before in
     let at-of-new-address = at-if1 .before in
@@ -45,13 +45,13 @@ returns c =
     let at-is-stored = at-count-of .before in
     let at-held-at = at-is-stored .before .before in
     let a = at-held-at .before .before .before .before .before .before .before .args in
-    lending.refused-answers (tables (a .head .now) (a .links .now) (a .searches .now) (a .numbers .now) (a .texts .now)) (NewAddress (a .index) (a .address .now) (length (a .outbox .now))) _ _ (at-of-new-address .of-new-address .result) (sym (at-of-new-address .of-new-address .ensures _ _ (sym (at-is-stored .is-stored .ensures (a .index) (linksIn (a .head .now) (a .links .now)) (at-held-at .held-at .ensures))) (sym (at-count-of .count-of .ensures ∙ ap length (at-held-at .held-at .ensures .addresses))) refl)) (at-if1 .if1 .taken) (c .refused .ensures _ _ _)
+    lending.refused-answers (engine (a .head .now) (a .links .now) (a .searches .now) (a .numbers .now) (a .texts .now)) (NewAddress (a .index) (a .address .now) (length (a .outbox .now))) _ _ (at-of-new-address .of-new-address .result) (sym (at-of-new-address .of-new-address .ensures _ _ (sym (at-is-stored .is-stored .ensures (a .index) (linksIn (a .head .now) (a .links .now)) (at-held-at .held-at .ensures))) (sym (at-count-of .count-of .ensures ∙ ap length (at-held-at .held-at .ensures .addresses))) refl)) (at-if1 .if1 .taken) (c .refused .ensures _ _ _)
 
 number-of-requires : tie.Need-number-of-requires
 number-of-requires c κs = search needs
 
 send-if-stored-requires : tie.Need-send-if-stored-requires
-unfolding checks namesOf heldIn
+unfolding checks namesOf held
 send-if-stored-requires c κs =
     let at-send-if-stored-arg3 = c .before .before .before in
     let at-if1 = at-send-if-stored-arg3 .before .before .before .before .before in
@@ -60,9 +60,9 @@ send-if-stored-requires c κs =
     let at-is-stored = at-count-of .before in
     let at-held-at = at-is-stored .before .before in
     let a = at-held-at .before .before .before .before .before .before .before .args in
-    let t = tables (a .head .now) (a .links .now) (a .searches .now) (a .numbers .now) (a .texts .now) in
+    let t = engine (a .head .now) (a .links .now) (a .searches .now) (a .numbers .now) (a .texts .now) in
     let call = NewAddress (a .index) (a .address .now) (length (a .outbox .now)) in
-    let p = passed (heldIn t .context) (namesOf (heldIn t) call) call (sym (at-of-new-address .of-new-address .ensures _ _ (sym (at-is-stored .is-stored .ensures (a .index) (linksIn (a .head .now) (a .links .now)) (at-held-at .held-at .ensures))) (sym (at-count-of .count-of .ensures ∙ ap length (at-held-at .held-at .ensures .addresses))) refl) ∙ at-if1 .if1 .left) in
+    let p = passed (held t .context) (namesOf (held t) call) call (sym (at-of-new-address .of-new-address .ensures _ _ (sym (at-is-stored .is-stored .ensures (a .index) (linksIn (a .head .now) (a .links .now)) (at-held-at .held-at .ensures))) (sym (at-count-of .count-of .ensures ∙ ap length (at-held-at .held-at .ensures .addresses))) refl) ∙ at-if1 .if1 .left) in
     let room : outboxSize ≤ length (a .outbox .now) = omega (arith, ltb-false (length (a .outbox .now)) outboxSize (p .0)) in
     ((omega (arith, at-send-if-stored-arg3 .send-if-stored-arg3 .given .0), omega (arith, c .before .before .send-if-stored-arg4 .given .0)), (omega (arith, c .before .send-if-stored-arg5 .given .0), omega (arith, c .send-if-stored-arg6 .given .0)), room)
 
@@ -82,7 +82,7 @@ same-length : tie.Need-same-length
 same-length c = search needs
 
 returns-2 : tie.Need-returns-2
-unfolding turned namesOf heldIn contextAfter acts results records tells checks addressRecords
+unfolding turned namesOf held contextAfter acts results records tells checks addressRecords
 returns-2 c =
     let at-set-count = c .before .before .before .before .before in
     let at-address-told = at-set-count .before .before in
@@ -96,10 +96,10 @@ returns-2 c =
     let at-held-at-arg2 = at-held-at .before .before .before in
     let a = at-held-at-arg2 .before .before .before .before .args in
     let size : length (a .head .now) ≡ headPlaces = omega (arith, at-held-at-arg2 .held-at-arg2 .given .0) in
-    let t = tables (a .head .now) (a .links .now) (a .searches .now) (a .numbers .now) (a .texts .now) in
+    let t = engine (a .head .now) (a .links .now) (a .searches .now) (a .numbers .now) (a .texts .now) in
     let call = NewAddress (a .index) (a .address .now) (length (a .outbox .now)) in
     let number = sym (at-of-new-address .of-new-address .ensures _ _ (sym (at-is-stored .is-stored .ensures (a .index) (linksIn (a .head .now) (a .links .now)) (at-held-at .held-at .ensures))) (sym (at-count-of .count-of .ensures ∙ ap length (at-held-at .held-at .ensures .addresses))) refl) ∙ at-if1 .if1 .left in
-    let p = passed (heldIn t .context) (namesOf (heldIn t) call) call number in
+    let p = passed (held t .context) (namesOf (held t) call) call number in
     let links = linksIn (a .head .now) (a .links .now) in
     let sends = allFrom (searchesIn (a .head .now) (a .searches .now)) (namesIn (a .head .now) (a .numbers .now) (a .texts .now)) in
     lending.done-answers t _ call (at-send-if-stored .send-if-stored .result) _ _ number

@@ -1,7 +1,7 @@
 -- `calls::on_data` meets its contract: refused by its time or as it cannot be read, or by what it comes to.
 use mathlib.Core.Path.{_∙_, _≡_, ap, sym}
 use mathlib.Core.List.{[]}
-use Rattle.engine.specs.Arrays.{numbersSize, searchBytes, tables, textsSize}
+use Rattle.engine.specs.Arrays.{numbersSize, searchBytes, engine, textsSize}
 use Rattle.engine.specs.Calls.{Datagram}
 use Rattle.engine.specs.Engine.{turned}
 use Rattle.engine.specs.Reading.{readingOf}
@@ -23,7 +23,7 @@ unfolding turned
 returns c links =
     let at-if1 = c .before .before .before .before in
     let a = at-if1 .before .before .args in
-    lending.refused-answers (tables (a .head .now) links (a .searches .now) (a .numbers .now) (a .texts .now)) (Datagram (a .time) (a .sender) (a .receiver) (a .datagram .now)) [] _ 1 (hearing.late-refusal _ _ (a .time) (a .sender) (a .receiver) (a .datagram .now) (at-if1 .if1 .taken)) (λ z. omega arith)
+    lending.refused-answers (engine (a .head .now) links (a .searches .now) (a .numbers .now) (a .texts .now)) (Datagram (a .time) (a .sender) (a .receiver) (a .datagram .now)) [] _ 1 (hearing.late-refusal _ _ (a .time) (a .sender) (a .receiver) (a .datagram .now) (at-if1 .if1 .taken)) (λ z. omega arith)
     (c .refused .ensures links _ _)
 
 parse-requires : tie.Need-parse-requires
@@ -54,7 +54,7 @@ returns-2 c links =
     let p = at-parse .parse .ensures in
     let none = hearing.unread (parsed (a .datagram .now)) (ap readingOf (sym p) ∙ sym (at-reading-of .reading-of .ensures) ∙ at-enum-told .enum-told .given .1) in
     let number = c .before .number-of .ensures ∙ ap parseRefusal p in
-    lending.refused-answers (tables (a .head .now) links (a .searches .now) (a .numbers .now) (a .texts .now)) (Datagram (a .time) (a .sender) (a .receiver) (a .datagram .now)) [] _ (c .before .number-of .result)
+    lending.refused-answers (engine (a .head .now) links (a .searches .now) (a .numbers .now) (a .texts .now)) (Datagram (a .time) (a .sender) (a .receiver) (a .datagram .now)) [] _ (c .before .number-of .result)
     (hearing.unread-refusal _ _ (a .time) (a .sender) (a .receiver) (a .datagram .now) (omega arith) none ∙ sym number) (λ z. none (sym number ∙ z))
     (c .refused2 .ensures links _ _)
 

@@ -2,7 +2,7 @@
 use mathlib.Core.Path.{_∙_, ap, sym}
 use mathlib.Core.List.{List}
 use Prim.Native.Nat.{ℕ}
-use Rattle.engine.specs.Arrays.{heldIn, linksIn, namesIn, searchesIn, seedIn, tables, timerIn}
+use Rattle.engine.specs.Arrays.{held, linksIn, namesIn, searchesIn, seedIn, engine, timerIn}
 use Rattle.engine.specs.Calls.{Act, Datagram, acts}
 use Rattle.engine.specs.Engine.{tells, tellsAbout, turned}
 use Rattle.engine.specs.Held.{holding}
@@ -31,7 +31,7 @@ accepted-requires : tie.Need-accepted-requires
 accepted-requires c κs = search needs
 
 returns : tie.Need-returns
-unfolding turned heldIn contextAfter acts results records tells
+unfolding turned held contextAfter acts results records tells
 returns c links texts =
     let at-field = c .before .before .before in
     let start = at-field .before .before .before .before .before in
@@ -41,7 +41,7 @@ returns c links texts =
     let subs = searchesIn head (a .searches .now) in
     let m = hearing.notice-read (a .datagram .now) (parsed (a .datagram .now)) (a .kind) (start .pre .3) in
     let none = sym (m .asking (a .time) (a .sender) (a .receiver)) in
-    lending.done-answers (tables (a .head .now) links (a .searches .now) (a .numbers .now) texts) (tables (a .head .now) links (a .searches .now) (a .numbers .now) texts) (Datagram (a .time) (a .sender) (a .receiver) (a .datagram .now)) 0 _ _ (hearing.notice-refusal _ _ (a .time) (a .sender) (a .receiver) (a .datagram .now) (a .kind) (start .pre .2) m)
+    lending.done-answers (engine (a .head .now) links (a .searches .now) (a .numbers .now) texts) (engine (a .head .now) links (a .searches .now) (a .numbers .now) texts) (Datagram (a .time) (a .sender) (a .receiver) (a .datagram .now)) 0 _ _ (hearing.notice-refusal _ _ (a .time) (a .sender) (a .receiver) (a .datagram .now) (a .kind) (start .pre .2) m)
     (ap (λ (l : List Act). holding (seedIn head) (timerIn head) (linksIn head links) subs (results (seedIn head) names l .advertisements)) none)
     (c .before .telling .ensures .0 ∙ ap (λ (l : List Act). results (seedIn head) names l .counts) none)
     (c .before .telling .ensures .1 ∙ ap (λ (x : ℕ). tellsMask x (c .before .before .told-of .result .told)) (c .before .before .told-of .ensures .mask) ∙ ap (tellsMask _) (c .before .before .told-of .ensures .told)

@@ -2,7 +2,7 @@
 use mathlib.Core.Path.{_∙_, _≡_, ap, subst, sym}
 use mathlib.Core.List.{List, [], _∷_}
 use Rattle.engine.proofs.Accepted.{Passed, passed}
-use Rattle.engine.specs.Arrays.{heldIn, linksIn, namesIn, searchesIn, seedIn, tables, timerIn}
+use Rattle.engine.specs.Arrays.{held, linksIn, namesIn, searchesIn, seedIn, engine, timerIn}
 use Rattle.engine.specs.Calls.{Act, Asks, Datagram, Query, acts, asks as asked-by}
 use Rattle.engine.specs.Engine.{namesOf, tells, tellsOf, turned}
 use Rattle.engine.specs.Held.{Advertisement, Text, holding}
@@ -42,7 +42,7 @@ returns c links searches =
     let at-field = at-of-search .before in
     let start = at-field .before .before .before .before .before in
     let a = start .args in
-    lending.refused-answers (tables (a .head .now) links searches (a .numbers .now) (a .texts .now)) (Datagram (a .time) (a .sender) (a .receiver) (a .datagram .now)) [] _ (at-of-search .of-search .result) (sym (at-of-search .of-search .ensures _ _ (a .sender) (a .receiver) (a .datagram .now) (a .place) (start .pre .3) (sym (ap length (at-field .field .ensures))))) (c .before .before .if1 .taken) (c .refused .ensures links searches _)
+    lending.refused-answers (engine (a .head .now) links searches (a .numbers .now) (a .texts .now)) (Datagram (a .time) (a .sender) (a .receiver) (a .datagram .now)) [] _ (at-of-search .of-search .result) (sym (at-of-search .of-search .ensures _ _ (a .sender) (a .receiver) (a .datagram .now) (a .place) (start .pre .3) (sym (ap length (at-field .field .ensures))))) (c .before .before .if1 .taken) (c .refused .ensures links searches _)
 
 seed-in-requires : tie.Need-seed-in-requires
 seed-in-requires c κs = search needs
@@ -55,9 +55,9 @@ searched-requires c κs =
     let at-field = at-of-search .before in
     let start = at-field .before .before .before .before .before in
     let a = start .args in
-    let t = tables (a .head .now) [] [] (a .numbers .now) (a .texts .now) in
+    let t = engine (a .head .now) [] [] (a .numbers .now) (a .texts .now) in
     let call = Datagram (a .time) (a .sender) (a .receiver) (a .datagram .now) in
-    let p = passed (heldIn t .context) (namesOf (heldIn t) call) call (sym (at-of-search .of-search .ensures _ _ (a .sender) (a .receiver) (a .datagram .now) (a .place) (start .pre .3) (sym (ap length (at-field .field .ensures)))) ∙ at-if1 .if1 .left) in
+    let p = passed (held t .context) (namesOf (held t) call) call (sym (at-of-search .of-search .ensures _ _ (a .sender) (a .receiver) (a .datagram .now) (a .place) (start .pre .3) (sym (ap length (at-field .field .ensures)))) ∙ at-if1 .if1 .left) in
     let q = subst (λ (m : Message). Passed (searchChecks (a .datagram .now) m)) (start .pre .3) (p .1 .1) in
     (start .pre .0, start .pre .1, omega (arith, ltb-false typeMax (length (fieldAt (a .datagram .now) (a .place))) (q .1 .0), ap length (at-field .field .ensures)), start .pre .2)
 
@@ -77,7 +77,7 @@ same-length-3 : tie.Need-same-length-3
 same-length-3 c = search needs
 
 returns-2 : tie.Need-returns-2
-unfolding turned heldIn contextAfter acts result results records tells
+unfolding turned held contextAfter acts result results records tells
 returns-2 c links searches =
     let at-searched = c .before .before .before .before .before .before .before in
     let at-seed-in = at-searched .before in
@@ -97,7 +97,7 @@ returns-2 c links searches =
     let at = at-seed-in .seed-in .ensures in
     let f = at-field .field .ensures in
     let r = at-searched .searched .ensures in
-    lending.done-answers (tables (a .head .now) links searches (a .numbers .now) (a .texts .now)) _ (Datagram (a .time) (a .sender) (a .receiver) (a .datagram .now)) 0 _ _ (sym (at-of-search .of-search .ensures _ _ (a .sender) (a .receiver) (a .datagram .now) (a .place) (start .pre .3) (sym (ap length (at-field .field .ensures)))) ∙ at-if1 .if1 .left)
+    lending.done-answers (engine (a .head .now) links searches (a .numbers .now) (a .texts .now)) _ (Datagram (a .time) (a .sender) (a .receiver) (a .datagram .now)) 0 _ _ (sym (at-of-search .of-search .ensures _ _ (a .sender) (a .receiver) (a .datagram .now) (a .place) (start .pre .3) (sym (ap length (at-field .field .ensures)))) ∙ at-if1 .if1 .left)
     (ap (λ (l : List Advertisement). holding seed (timerIn head) (linksIn head links) (searchesIn head searches) l)
     (r .table ∙ (λ i. result (at i) names (Asks (query (f i))) .advertisements) ∙ ap (λ (l : List Act). results seed names l .advertisements) (sym does)))
     (c .before .asking .ensures .0 ∙ (λ i. asks (r .matched i) (r .joined i))

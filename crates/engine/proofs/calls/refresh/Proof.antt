@@ -3,7 +3,7 @@ use mathlib.Core.Path.{_∙_, ap, refl, sym}
 use mathlib.Core.List.{List}
 use Prim.Native.Nat.{_≤_, ℕ}
 use Rattle.engine.proofs.Accepted.{passed}
-use Rattle.engine.specs.Arrays.{heldIn, namesIn, searchesIn, tables}
+use Rattle.engine.specs.Arrays.{held, namesIn, searchesIn, engine}
 use Rattle.engine.specs.Calls.{Refresh, acts}
 use Rattle.engine.specs.Engine.{namesOf, tells, turned}
 use Rattle.engine.specs.Links.{contextAfter}
@@ -32,7 +32,7 @@ returns c =
     let at-if1 = c .before .before .before in
     let at-of-room = at-if1 .before in
     let a = at-of-room .before .before .args in
-    lending.refused-answers (tables (a .head .now) (a .links .now) (a .searches .now) (a .numbers .now) (a .texts .now)) (Refresh (length (a .outbox .now))) _ _ (at-of-room .of-room .result) (sym (at-of-room .of-room .ensures _ _ refl .0)) (at-if1 .if1 .taken) (c .refused .ensures _ _ _)
+    lending.refused-answers (engine (a .head .now) (a .links .now) (a .searches .now) (a .numbers .now) (a .texts .now)) (Refresh (length (a .outbox .now))) _ _ (at-of-room .of-room .result) (sym (at-of-room .of-room .ensures _ _ refl .0)) (at-if1 .if1 .taken) (c .refused .ensures _ _ _)
 
 of-up-links-requires : tie.Need-of-up-links-requires
 of-up-links-requires c κs = search needs
@@ -43,9 +43,9 @@ send-refresh-requires c κs =
     let at-if1 = c .before .before .before .before .before .before .before .before .before in
     let at-of-room = at-if1 .before in
     let a = at-of-room .before .before .args in
-    let t = tables (a .head .now) (a .links .now) (a .searches .now) (a .numbers .now) (a .texts .now) in
+    let t = engine (a .head .now) (a .links .now) (a .searches .now) (a .numbers .now) (a .texts .now) in
     let call = Refresh (length (a .outbox .now)) in
-    let p = passed (heldIn t .context) (namesOf (heldIn t) call) call (sym (at-of-room .of-room .ensures _ _ refl .0) ∙ at-if1 .if1 .left) in
+    let p = passed (held t .context) (namesOf (held t) call) call (sym (at-of-room .of-room .ensures _ _ refl .0) ∙ at-if1 .if1 .left) in
     let room : outboxSize ≤ length (a .outbox .now) = omega (arith, ltb-false (length (a .outbox .now)) outboxSize (p .0)) in
     search needs
 
@@ -59,14 +59,14 @@ same-length : tie.Need-same-length
 same-length c = search needs
 
 returns-2 : tie.Need-returns-2
-unfolding turned namesOf heldIn contextAfter acts results records tells refreshRecords
+unfolding turned namesOf held contextAfter acts results records tells refreshRecords
 returns-2 c =
     let at-send-refresh = c .before .before .before .before .before .before in
     let at-of-up-links = at-send-refresh .before .before .before .before .before .before .before in
     let at-if1 = at-of-up-links .before .before .before in
     let at-of-room = at-if1 .before in
     let a = at-of-room .before .before .args in
-    let t = tables (a .head .now) (a .links .now) (a .searches .now) (a .numbers .now) (a .texts .now) in
+    let t = engine (a .head .now) (a .links .now) (a .searches .now) (a .numbers .now) (a .texts .now) in
     lending.done-answers t t (Refresh (length (a .outbox .now))) (at-send-refresh .send-refresh .result) _ _ (sym (at-of-room .of-room .ensures _ _ refl .0) ∙ at-if1 .if1 .left) refl (c .before .nothing .ensures .0) (c .before .nothing .ensures .1)
     (answering.sent-as (at-send-refresh .send-refresh .ensures)
     (ap (λ (l : List ℕ). refreshOn l (searchesIn (a .head .now) (a .searches .now)) (namesIn (a .head .now) (a .numbers .now) (a .texts .now))) (at-of-up-links .of-up-links .ensures .held)))

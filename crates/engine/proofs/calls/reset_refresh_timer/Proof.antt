@@ -2,7 +2,7 @@
 use mathlib.Core.Path.{_∙_, _≡_, ap, sym}
 use mathlib.Core.List.{[]}
 use Rattle.engine.proofs.Timer.{timer-accepted}
-use Rattle.engine.specs.Arrays.{headPlaces, heldIn, tables, timerIn}
+use Rattle.engine.specs.Arrays.{headPlaces, held, engine, timerIn}
 use Rattle.engine.specs.Calls.{ResetTimer, acts}
 use Rattle.engine.specs.Engine.{tells, turned}
 use Rattle.engine.specs.Links.{contextAfter}
@@ -31,7 +31,7 @@ returns c links searches texts =
     let at-if1 = c .before .before .before .before in
     let at-of-time = at-if1 .before in
     let a = at-of-time .before .args in
-    lending.refused-answers (tables (a .head .now) links searches (a .numbers .now) texts) (ResetTimer (a .time)) [] _ (at-of-time .of-time .result) (sym (at-of-time .of-time .ensures .1 _ _)) (at-if1 .if1 .taken)
+    lending.refused-answers (engine (a .head .now) links searches (a .numbers .now) texts) (ResetTimer (a .time)) [] _ (at-of-time .of-time .result) (sym (at-of-time .of-time .ensures .1 _ _)) (at-if1 .if1 .taken)
     (c .refused .ensures links searches texts)
 
 timer-in-requires : tie.Need-timer-in-requires
@@ -50,7 +50,7 @@ accepted-requires : tie.Need-accepted-requires
 accepted-requires c κs = search needs
 
 returns-2 : tie.Need-returns-2
-unfolding turned heldIn contextAfter acts results records tells
+unfolding turned held contextAfter acts results records tells
 returns-2 c links searches texts =
     let at-set-timer = c .before .before .before .before .before in
     let at-reset = at-set-timer .before .before in
@@ -66,7 +66,7 @@ returns-2 c links searches texts =
     ap (λ (t : TimerAnswer). t .timer) (at-reset .reset .ensures) ∙ timer-accepted (a .time) (at-timer-in .timer-in .result) (timerReset (at-timer-in .timer-in .result) (a .time)) time
     ∙ ap (λ (t : RefreshTimer). timerReset t (a .time)) (at-timer-in .timer-in .ensures)
     in
-    lending.done-answers (tables head links searches numbers texts) _ (ResetTimer (a .time)) 0 _ _ (sym (at-of-time .of-time .ensures .1 _ _) ∙ at-if1 .if1 .left)
+    lending.done-answers (engine head links searches numbers texts) _ (ResetTimer (a .time)) 0 _ _ (sym (at-of-time .of-time .ensures .1 _ _) ∙ at-if1 .if1 .left)
     (lending.timer-changed head links searches numbers texts size (at-reset .reset .result .timer) (timerReset (timerIn head) (a .time)) (at-set-timer .set-timer .ensures) timer (lending.reset-keeps head (a .time)))
     (c .before .nothing .ensures .0) (c .before .nothing .ensures .1) answering.sent-none (c .accepted .ensures links searches texts)
 

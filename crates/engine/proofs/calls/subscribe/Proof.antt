@@ -3,7 +3,7 @@ use mathlib.Core.Path.{_∙_, _≡_, ap, refl, sym}
 use mathlib.Core.List.{List, []}
 use Prim.Native.Nat.{ℕ}
 use Rattle.engine.proofs.Accepted.{passed}
-use Rattle.engine.specs.Arrays.{headPlaces, heldIn, tables}
+use Rattle.engine.specs.Arrays.{headPlaces, held, engine}
 use Rattle.engine.specs.Calls.{Subscribe, acts}
 use Rattle.engine.specs.Engine.{namesOf, tells, turned}
 use Rattle.engine.specs.Links.{contextAfter}
@@ -31,39 +31,39 @@ refused-requires : tie.Need-refused-requires
 refused-requires c κs = search needs
 
 returns : tie.Need-returns
-unfolding turned namesOf heldIn
+unfolding turned namesOf held
 returns c texts =
     let at-if1 = c .before .before .before .before in
     let at-of-subscribe = at-if1 .before in
     let at-count-of = at-of-subscribe .before in
     let a = at-count-of .before .before .before .before .before .args in
-    lending.refused-answers (tables (a .head .now) (a .links .now) (a .searches .now) (a .numbers .now) texts) (Subscribe (a .kind .now) (length (a .outbox .now))) _ _ (at-of-subscribe .of-subscribe .result) (sym (at-of-subscribe .of-subscribe .ensures _ _ (lending.searches-length (a .head .now) (a .searches .now) ∙ sym (at-count-of .count-of .ensures)) refl)) (at-if1 .if1 .taken) (c .refused .ensures _ _ _)
+    lending.refused-answers (engine (a .head .now) (a .links .now) (a .searches .now) (a .numbers .now) texts) (Subscribe (a .kind .now) (length (a .outbox .now))) _ _ (at-of-subscribe .of-subscribe .result) (sym (at-of-subscribe .of-subscribe .ensures _ _ (lending.searches-length (a .head .now) (a .searches .now) ∙ sym (at-count-of .count-of .ensures)) refl)) (at-if1 .if1 .taken) (c .refused .ensures _ _ _)
 
 of-up-links-requires : tie.Need-of-up-links-requires
 of-up-links-requires c κs = search needs
 
 send-search-requires : tie.Need-send-search-requires
-unfolding checks namesOf heldIn
+unfolding checks namesOf held
 send-search-requires c κs =
     let at-if1 = c .before .before .before .before .before .before in
     let at-of-subscribe = at-if1 .before in
     let at-count-of = at-of-subscribe .before in
     let a = at-count-of .before .before .before .before .before .args in
-    let t = tables (a .head .now) (a .links .now) (a .searches .now) (a .numbers .now) [] in
+    let t = engine (a .head .now) (a .links .now) (a .searches .now) (a .numbers .now) [] in
     let call = Subscribe (a .kind .now) (length (a .outbox .now)) in
-    let p = passed (heldIn t .context) (namesOf (heldIn t) call) call (sym (at-of-subscribe .of-subscribe .ensures _ _ (lending.searches-length (a .head .now) (a .searches .now) ∙ sym (at-count-of .count-of .ensures)) refl) ∙ at-if1 .if1 .left) in
+    let p = passed (held t .context) (namesOf (held t) call) call (sym (at-of-subscribe .of-subscribe .ensures _ _ (lending.searches-length (a .head .now) (a .searches .now) ∙ sym (at-count-of .count-of .ensures)) refl) ∙ at-if1 .if1 .left) in
     omega (arith, ltb-false (length (a .outbox .now)) outboxSize (p .0))
 
 push-requires : tie.Need-push-requires
-unfolding checks namesOf heldIn
+unfolding checks namesOf held
 push-requires c κs =
     let at-if1 = c .before .before .before .before .before .before .before .before .before .before in
     let at-of-subscribe = at-if1 .before in
     let at-count-of = at-of-subscribe .before in
     let a = at-count-of .before .before .before .before .before .args in
-    let t = tables (a .head .now) (a .links .now) (a .searches .now) (a .numbers .now) [] in
+    let t = engine (a .head .now) (a .links .now) (a .searches .now) (a .numbers .now) [] in
     let call = Subscribe (a .kind .now) (length (a .outbox .now)) in
-    let p = passed (heldIn t .context) (namesOf (heldIn t) call) call (sym (at-of-subscribe .of-subscribe .ensures _ _ (lending.searches-length (a .head .now) (a .searches .now) ∙ sym (at-count-of .count-of .ensures)) refl) ∙ at-if1 .if1 .left) in (
+    let p = passed (held t .context) (namesOf (held t) call) call (sym (at-of-subscribe .of-subscribe .ensures _ _ (lending.searches-length (a .head .now) (a .searches .now) ∙ sym (at-count-of .count-of .ensures)) refl) ∙ at-if1 .if1 .left) in (
       lending.searches-free (a .head .now) (a .searches .now) (at-count-of .count-of .result) (at-count-of .count-of .ensures) (p .1 .1 .1 .0),
       ltb-false typeMax (length (a .kind .now)) (p .1 .0),
       omega arith,
@@ -85,7 +85,7 @@ same-length : tie.Need-same-length
 same-length c = search needs
 
 returns-2 : tie.Need-returns-2
-unfolding turned namesOf heldIn contextAfter acts results records tells checks
+unfolding turned namesOf held contextAfter acts results records tells checks
 returns-2 c texts =
     let at-set-count = c .before .before .before .before .before in
     let at-push = at-set-count .before .before in
@@ -96,10 +96,10 @@ returns-2 c texts =
     let at-count-of = at-of-subscribe .before in
     let a = at-count-of .before .before .before .before .before .args in
     let size : length (a .head .now) ≡ headPlaces = omega arith in
-    let t = tables (a .head .now) (a .links .now) (a .searches .now) (a .numbers .now) texts in
+    let t = engine (a .head .now) (a .links .now) (a .searches .now) (a .numbers .now) texts in
     let call = Subscribe (a .kind .now) (length (a .outbox .now)) in
     let number = sym (at-of-subscribe .of-subscribe .ensures _ _ (lending.searches-length (a .head .now) (a .searches .now) ∙ sym (at-count-of .count-of .ensures)) refl) ∙ at-if1 .if1 .left in
-    let p = passed (heldIn t .context) (namesOf (heldIn t) call) call number in
+    let p = passed (held t .context) (namesOf (held t) call) call number in
     let free = lending.searches-free (a .head .now) (a .searches .now) (at-count-of .count-of .result) (at-count-of .count-of .ensures) (p .1 .1 .1 .0) in
     lending.done-answers t _ call (at-send-search .send-search .result) _ _ number
     (lending.searches-pushed (a .head .now) (a .links .now) (a .searches .now) (a .numbers .now) texts size _ (at-count-of .count-of .result) (a .kind .now) (at-set-count .set-count .ensures) (at-count-of .count-of .ensures) free (at-push .push .ensures))

@@ -8,7 +8,7 @@ ghost use Rattle.engine.specs.Arrays.{Engine};
 ghost use Rattle.engine.specs.Claim.{Log, Claim};
 ghost use Rattle.engine.specs.EveryList.{Word, Lent, Logged};
 ghost use Rattle.engine.specs.StarCases.{allHold, starCases};
-ghost use Rattle.engine.specs.declared.engine.Answer.{Answer};
+ghost use Rattle.engine.specs.declared.answer.Answer.{Answer};
 ghost use Rattle.engine.proofs.Functions.{News, Gives};
 
 // Demand 3: it holds of every list of public calls, whatever their arguments, whose answers are what the functions' contracts give.

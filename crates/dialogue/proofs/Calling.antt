@@ -12,7 +12,7 @@ use Rattle.engine.specs.Records.{Record}
 use Rattle.engine.specs.Layout.{layout, written}
 use Rattle.engine.specs.Arrays.{Engine}
 use Rattle.engine.specs.Promises.{answered, Answers}
-use Rattle.engine.specs.declared.engine.Answer.{Answer}
+use Rattle.engine.specs.declared.answer.Answer.{Answer}
 use Rattle.console.specs.declared.command.Command.{Command}
 use Rattle.console.specs.declared.command.Command.the-variants as line
 use Rattle.dialogue.specs.Asking.{Asked, asked}

@@ -8,7 +8,7 @@ use Rattle.console.specs.Decimal.{numberThen}
 use Rattle.console.specs.Address.{addressThen}
 use Rattle.console.specs.Hexadecimal.{hexText}
 use Rattle.engine.specs.Sizes.{headSize}
-use Rattle.engine.specs.declared.engine.Answer.{Answer}
+use Rattle.engine.specs.declared.answer.Answer.{Answer}
 
 abbrev tab : ℕ
 tab = 9

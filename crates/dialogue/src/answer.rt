@@ -1,7 +1,7 @@
 // What the programs print of an answer: document 01, 'The session program'.
 use console::buffer;
 use console::decimal;
-use engine::engine::Answer;
+use engine::answer::Answer;
 ghost use Rattle.console.specs.Buffer.{Appends};
 ghost use Rattle.dialogue.specs.Printing.{answerLine, newsLine};
 

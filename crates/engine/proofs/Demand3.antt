@@ -22,7 +22,7 @@ use Rattle.engine.specs.Ledger.{Wait, Name, waitsIn, Ledger, entry, ledg
 use Rattle.engine.specs.Claim.{Log, new, call, countsOf, total, lastWaiting, After, timeoutRecords, Lone, Serves, Exact, Every, Claim}
 use Rattle.engine.specs.declared.advertisement.ResponseNeeded.{ResponseNeeded}
 use Rattle.engine.specs.declared.advertisement.ResponseNeeded.the-variants.{None, Multicast, Unicast}
-use Rattle.engine.specs.declared.engine.Answer.{Answer}
+use Rattle.engine.specs.declared.answer.Answer.{Answer}
 use Rattle.engine.proofs.LeafLaws.{Laws}
 use Rattle.engine.proofs.Members.{Each, nobody, both, each-at}
 use Rattle.engine.proofs.Agreement.{Agree, SameCounts, no-counts, plus-same, same-counts, step-same, turned-same, served-same}

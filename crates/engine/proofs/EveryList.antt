@@ -22,7 +22,7 @@ use Rattle.engine.specs.Promises.{Answers, Begins, Answered, answered}
 use Rattle.engine.specs.Claim.{Log, new, call}
 use Rattle.engine.specs.EveryList.{Word, SenderFits, InRange, Lends, Lent, outboxesOf, SizedIn, Logged}
 use Rattle.engine.specs.declared.advertisement.Endpoint.{Endpoint}
-use Rattle.engine.specs.declared.engine.Answer.{Answer}
+use Rattle.engine.specs.declared.answer.Answer.{Answer}
 use Rattle.engine.proofs.Storing.{Fits, headOf, linkArray, searchArray, numberArray, textArray, engineOf, head-back, links-back, searches-back, names-back, held-back, all-sized, texts-kept}
 use Rattle.engine.proofs.Ranges.{fits-fresh, fits-accepted}
 

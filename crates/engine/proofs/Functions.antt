@@ -12,7 +12,7 @@ use Rattle.engine.specs.Promises.{Answered, answered, Answers, Begins}
 use Rattle.engine.specs.Claim.{Log, Claim}
 use Rattle.engine.specs.EveryList.{Word, Lent, Logged}
 use Rattle.engine.specs.declared.advertisement.Endpoint.{Endpoint}
-use Rattle.engine.specs.declared.engine.Answer.{Answer}
+use Rattle.engine.specs.declared.answer.Answer.{Answer}
 use Rattle.engine.proofs.LeafLaws.{laws}
 use Rattle.engine.proofs.Demand3.{demand3}
 use Rattle.engine.proofs.EveryList.{Given, log-of}

@@ -28,7 +28,7 @@ use Rattle.engine.specs.Engine.{turned, poll, Told, tells, tellsNobody, 
 use Rattle.engine.specs.Arrays.{Engine, engine, held, headPlaces, salvoPlace, phasePlace, namesPlace, linksPlace, searchesPlace, low32, seedIn, timerIn, linkWidth, linkIn, linkCount, linksIn, searchWidth, searchIn, searchRows, searchCount, searchesIn, entryIn, entryAt, replyAt, entries, nameCount, namesIn}
 use Rattle.engine.specs.Changes.{blank, LinksAfter, NamesAfter}
 use Rattle.engine.specs.Promises.{answered, Answers, Begins}
-use Rattle.engine.specs.declared.engine.Answer.{Answer}
+use Rattle.engine.specs.declared.answer.Answer.{Answer}
 use Rattle.engine.proofs.TableRows.{lines-length}
 use Rattle.engine.proofs.NameRows.{names-length, name-is}
 use Rattle.engine.proofs.Tables.{rank-le, known-lt, entry-known, entry-unknown, enter-known, enter-unknown, leave-known, leave-unknown}

@@ -20,7 +20,7 @@ use Rattle.engine.specs.Promises.{Answered}
 use Rattle.engine.specs.Ledger.{Wait, Name, withWait, waitsIn, opened, loneReply, repliesTo, Ledger, refusalIn, entry, ledgerOf, sumsOf, ledgerRecords}
 use Rattle.engine.specs.declared.advertisement.ResponseNeeded.{ResponseNeeded}
 use Rattle.engine.specs.declared.advertisement.ResponseNeeded.the-variants.{None, Multicast, Unicast}
-use Rattle.engine.specs.declared.engine.Answer.{Answer}
+use Rattle.engine.specs.declared.answer.Answer.{Answer}
 
 -- A list begins with one `new`, accepted or refused; then each call gets the engine that the call before it returned, with any arguments and any outbox.
 -- New and Gives say what the calls may have given: by the definitions `Begins` and `Answers`, or what a caller learns from the functions' contracts.

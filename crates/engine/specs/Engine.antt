@@ -15,7 +15,7 @@ use Rattle.engine.specs.Links.{contextAfter}
 use Rattle.engine.specs.Records.{Record, records}
 use Rattle.engine.specs.Replies.{one, waiting, soonest, results}
 use Rattle.engine.specs.Refusals.{Names, refusal}
-use Rattle.engine.specs.declared.engine.Answer.{Answer}
+use Rattle.engine.specs.declared.answer.Answer.{Answer}
 
 -- the room that refusal 2 asks for (02, change 1: that of the records which this call would write)
 abbrev pub need : Context → List Advertisement → Call → ℕ

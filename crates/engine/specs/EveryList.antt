@@ -8,7 +8,7 @@ use Rattle.engine.specs.Arrays.{headPlaces, linkNumbers, searchBytes, nu
 use Rattle.engine.specs.Promises.{Answered}
 use Rattle.engine.specs.Claim.{Log, new, call}
 use Rattle.engine.specs.declared.advertisement.Endpoint.{Endpoint}
-use Rattle.engine.specs.declared.engine.Answer.{Answer}
+use Rattle.engine.specs.declared.answer.Answer.{Answer}
 
 -- numbers in the range of their types: u8, u16, u32
 abbrev pub Byte : ℕ → Type 0

@@ -8,7 +8,7 @@ use Rattle.engine.specs.Layout.{written}
 use Rattle.engine.specs.Refusals.{newRefusal}
 use Rattle.engine.specs.Engine.{turned, step, newStep}
 use Rattle.engine.specs.Arrays.{Engine, held}
-use Rattle.engine.specs.declared.engine.Answer.{Answer}
+use Rattle.engine.specs.declared.answer.Answer.{Answer}
 
 -- a call's answer with the engine after it: the contents of the five arrays
 pub record Answered : Type 0 where

@@ -2,7 +2,7 @@
 use Prim.Native.Nat.{ℕ}
 use Rattle.engine.specs.Calls.{Counts}
 use Rattle.engine.specs.Engine.{Told}
-use Rattle.engine.specs.declared.engine.Tally.{Tally}
+use Rattle.engine.specs.declared.answer.Tally.{Tally}
 
 abbrev pub counted : Tally → Counts
 counted t = record { matched = t .matched; joined = t .joined; alone = t .alone; group = t .group; dropped = t .dropped }

@@ -2,23 +2,24 @@
 // each contract is `Answers` of specs/Promises.antt at that call, for every content of the arrays.
 use crate::address;
 use crate::advertisement::Endpoint;
-use crate::engine::Answer;
-use crate::engine::Tally;
-use crate::engine::asking;
-use crate::engine::dropping;
-use crate::engine::leaving;
-use crate::engine::nothing;
-use crate::engine::sending;
-use crate::engine::telling;
+use crate::answer::Answer;
+use crate::answer::Tally;
+use crate::answer::asking;
+use crate::answer::dropping;
+use crate::answer::leaving;
+use crate::answer::nothing;
+use crate::answer::sending;
+use crate::answer::telling;
 use crate::flags::Flags;
 use crate::head::begin;
+use crate::head::rolled;
 use crate::head::seed_in;
 use crate::head::set_count;
 use crate::head::set_timer;
 use crate::head::timer_in;
-use crate::link_news;
 use crate::links;
 use crate::names;
+use crate::news;
 use crate::pending::searched;
 use crate::pending::serve_all;
 use crate::pending::waits_in;
@@ -29,10 +30,7 @@ use crate::reading::reading_of;
 use crate::refresh_timer::RefreshTimer;
 use crate::refusals;
 use crate::replies::wait_of;
-use crate::rolling::rolled;
-use crate::searches;
 use crate::send;
-use crate::sends;
 use crate::sizes::Head;
 use crate::sizes::LINK_COUNT;
 use crate::sizes::Links;
@@ -41,7 +39,8 @@ use crate::sizes::Numbers;
 use crate::sizes::SEARCH_COUNT;
 use crate::sizes::Searches;
 use crate::sizes::Texts;
-use crate::sources::of_up_links;
+use crate::source::of_up_links;
+use crate::subscription;
 use crate::table::Spot;
 use text::white::Place;
 ghost use mathlib.Core.Path.{_≡_};
@@ -162,7 +161,7 @@ pub fn refresh(
     }
     let up = of_up_links(head, links);
     let from = up.addresses;
-    let k = sends::send_refresh(outbox, from, up.count, head, searches, numbers, texts);
+    let k = send::send_refresh(outbox, from, up.count, head, searches, numbers, texts);
     accepted(head, numbers, k, nothing())
 }
 
@@ -177,7 +176,7 @@ pub fn subscribe(
 ) -> Answer
     ensures { λ r. ⌜ ((texts : List ℕ) → Answers (engine (now (head .entry)) (now (links .entry)) (now (searches .entry)) (now (numbers .entry)) texts) (Subscribe (now (kind .entry)) (length (now (outbox .entry)))) (now (outbox .entry)) (now (outbox .exit)) (answered (engine (now (head .exit)) (now (links .entry)) (now (searches .exit)) (now (numbers .entry)) texts) r)) ⌝ }
 {
-    let n = searches::count_of(head);
+    let n = subscription::count_of(head);
     let number = refusals::of_subscribe(n, outbox.len(), kind);
     if number != 0 {
         return refused(head, numbers, number);
@@ -185,7 +184,7 @@ pub fn subscribe(
     let up = of_up_links(head, links);
     let from = up.addresses;
     let k = send::send_search(outbox, from, up.count, kind);
-    searches::push(searches, n, kind);
+    subscription::push(searches, n, kind);
     set_count(head, SEARCH_COUNT, n + 1);
     accepted(head, numbers, k, nothing())
 }
@@ -225,7 +224,7 @@ pub fn deleted_address(
         return refused(head, numbers, number);
     }
     let held = links::held_at(head, links, index);
-    let n = link_news::address_gone(head, links, held, address);
+    let n = news::address_gone(head, links, held, address);
     set_count(head, LINK_COUNT, n);
     accepted(head, numbers, 0, nothing())
 }
@@ -258,8 +257,8 @@ pub fn new_link(
     }
     let link = held.link;
     let from = link.addresses;
-    let turns = link_news::turns_up(held, flags);
-    let k = sends::send_if_up(
+    let turns = news::turns_up(held, flags);
+    let k = send::send_if_up(
         outbox,
         turns,
         from,
@@ -269,7 +268,7 @@ pub fn new_link(
         numbers,
         texts,
     );
-    let n = link_news::link_told(head, links, held, flags);
+    let n = news::link_told(head, links, held, flags);
     set_count(head, LINK_COUNT, n);
     accepted(head, numbers, k, nothing())
 }
@@ -289,14 +288,14 @@ pub fn new_address(
 {
     let held = links::held_at(head, links, index);
     let link = held.link;
-    let storing = link_news::is_stored(held, address);
+    let storing = news::is_stored(held, address);
     let count = address::count_of(link);
     let number = refusals::of_new_address(storing, count, index, address, outbox.len());
     if number != 0 {
         return refused(head, numbers, number);
     }
     let source = address::number_of(address);
-    let k = sends::send_if_stored(
+    let k = send::send_if_stored(
         outbox,
         storing & link.up,
         source,
@@ -305,7 +304,7 @@ pub fn new_address(
         numbers,
         texts,
     );
-    let n = link_news::address_told(head, links, held, address);
+    let n = news::address_told(head, links, held, address);
     set_count(head, LINK_COUNT, n);
     accepted(head, numbers, k, nothing())
 }
@@ -389,7 +388,7 @@ fn byebye_if(
     if spot.known {
         let up = of_up_links(head, links);
         let from = up.addresses;
-        return sends::send_byebye(outbox, from, up.count, numbers, texts, at);
+        return send::send_byebye(outbox, from, up.count, numbers, texts, at);
     }
     0
 }
@@ -455,7 +454,7 @@ pub fn handle_timeout(
     let from = up.addresses;
     let timer = timer_in(head);
     let due = timer.next_salvo <= time;
-    let k = sends::send_timeout(
+    let k = send::send_timeout(
         outbox,
         from,
         up.count,
@@ -519,7 +518,7 @@ fn on_notice(
     requires { ⌜ SearchArrays (now head) (now searches) × (length (now numbers) ≡ numbersSize) × (time ≤ timeMax) × (readingOf (parsed (now datagram)) ≡ Of (Notice kind)) ⌝ }
     ensures { λ r. ⌜ ((links texts : List ℕ) → Answers (engine (now (head .entry)) links (now (searches .entry)) (now (numbers .entry)) texts) (Datagram time sender receiver (now (datagram .entry))) [] [] (answered (engine (now (head .entry)) links (now (searches .entry)) (now (numbers .entry)) texts) r)) ⌝ }
 {
-    let told = searches::told_of(head, searches, message::field(datagram, kind));
+    let told = subscription::told_of(head, searches, message::field(datagram, kind));
     accepted(head, numbers, 0, telling(told))
 }
 

@@ -1,7 +1,9 @@
 // Texts in arrays: a text is the first `len` bytes of its array, or all of it where it has fewer.
 use crate::buffer::put;
+use crate::sizes::TYPE_SIZE;
 ghost use mathlib.Core.Path.{_≡_};
 ghost use lib.ListN.{length, take};
+ghost use Rattle.message.specs.Build.{typeMax};
 
 // The first `len` bytes.
 pub(crate) fn front(text: &[u8], len: usize) -> &[u8]
@@ -10,11 +12,11 @@ pub(crate) fn front(text: &[u8], len: usize) -> &[u8]
     if len < text.len() { &text[..len] } else { text }
 }
 
-// An array with a text in front, cut to the array's size.
-pub fn text80(text: &[u8]) -> [u8; 80]
-    ensures { λ r. ⌜ take (length (now (text .entry))) r ≡ take 80 (now (text .entry)) ⌝ }
+// An array for a type with a text in front, cut to the array's size.
+pub(crate) fn type_bytes(text: &[u8]) -> [u8; TYPE_SIZE]
+    ensures { λ r. ⌜ take (length (now (text .entry))) r ≡ take typeMax (now (text .entry)) ⌝ }
 {
-    let mut a = [0u8; 80];
-    put(&mut a, 0, front(text, 80));
+    let mut a = [0u8; TYPE_SIZE];
+    put(&mut a, 0, front(text, TYPE_SIZE));
     a
 }

@@ -1,7 +1,7 @@
 // The head of the lent arrays: the timer and the counts of the tables. The contracts cite specs/Arrays.antt.
-use crate::narrow::low_8;
-use crate::narrow::low_32;
-use crate::narrow::number_of;
+use crate::clamp::low_8;
+use crate::clamp::low_32;
+use crate::clamp::number_of;
 use crate::refresh_timer::RefreshTimer;
 use crate::sizes::LINK_COUNT;
 use crate::sizes::NAME_COUNT;
@@ -10,6 +10,7 @@ use crate::sizes::SALVO;
 use crate::sizes::SEARCH_COUNT;
 use crate::sizes::SEED;
 ghost use mathlib.Core.Path.{_≡_};
+ghost use Rattle.engine.specs.RefreshTimer.{updateAnswer};
 ghost use mathlib.Core.List.{[], _∷_};
 ghost use Prim.Native.Nat.{_<_};
 ghost use lib.ListN.{length, set};
@@ -61,4 +62,13 @@ pub(crate) fn begin(head: &mut [u64], timer: RefreshTimer)
     head[NAME_COUNT] = 0;
     head[LINK_COUNT] = 0;
     head[SEARCH_COUNT] = 0;
+}
+
+// Lends the timer to `update_refresh`, which rolls it on by one salvo, if that is due.
+pub(crate) fn rolled(timer: RefreshTimer, time: u64) -> RefreshTimer
+    ensures { λ r. ⌜ r ≡ updateAnswer timer time .timer ⌝ }
+{
+    let mut owned = timer;
+    owned.update_refresh(time);
+    owned
 }

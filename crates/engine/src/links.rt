@@ -1,11 +1,11 @@
 // The table of links in a lent array, a row for each link, by index: document 01, 'Links and addresses'. A link is taken out of its row as an `Interface`, changed and
 // put back. The contracts cite specs/Arrays.antt.
+use crate::clamp::count_in;
+use crate::clamp::low_32;
+use crate::clamp::number_of;
+use crate::clamp::size_of;
 use crate::interface::HeldLink;
 use crate::interface::Interface;
-use crate::narrow::count_in;
-use crate::narrow::low_32;
-use crate::narrow::number_of;
-use crate::narrow::size_of;
 use crate::shift::numbers_down;
 use crate::shift::numbers_up;
 use crate::sizes::ADDRESSES;

@@ -3,12 +3,12 @@
 use crate::advertisement::Endpoint;
 use crate::advertisement::ResponseNeeded;
 use crate::buffer::put;
+use crate::clamp::count_in;
 use crate::clamp::least;
-use crate::narrow::count_in;
-use crate::narrow::low_16;
-use crate::narrow::low_32;
-use crate::narrow::number_of;
-use crate::narrow::size_of;
+use crate::clamp::low_16;
+use crate::clamp::low_32;
+use crate::clamp::number_of;
+use crate::clamp::size_of;
 use crate::shift::bytes_down;
 use crate::shift::bytes_up;
 use crate::shift::numbers_down;

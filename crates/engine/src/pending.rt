@@ -2,7 +2,7 @@
 use crate::advertisement::Endpoint;
 use crate::advertisement::ResponseNeeded;
 use crate::delay::delay_of;
-use crate::field::text80;
+use crate::field::type_bytes;
 use crate::names::ActiveAdvertisement;
 use crate::names::active_at;
 use crate::names::count_of;
@@ -71,7 +71,7 @@ fn opened_by(target: &[u8], due: u64, sender: Endpoint, receiver: u32) -> Active
     requires { ⌜ length (now target) ≤ typeMax ⌝ }
     ensures { λ r. ⌜ (r .«response_needed» ≡ Unicast due sender receiver) × (take (r .«answer_len») (r .answer) ≡ now (target .entry)) ⌝ }
 {
-    let bytes = text80(target);
+    let bytes = type_bytes(target);
     ActiveAdvertisement {
         response_needed: ResponseNeeded::Unicast(due, sender, receiver),
         answer: bytes,

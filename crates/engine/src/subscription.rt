@@ -1,8 +1,27 @@
-// Which subscriptions a notify or response concerns: document 01, 'Engine and ledger'. Their rows stand in searches.rt.
+// The subscriptions in a lent array of bytes, a row for each, in the order in which they were made (document 01, 'Outbox'), and which of them a notify or response concerns
+// ('Engine and ledger'). The contracts cite specs/Arrays.antt.
+use crate::buffer::put;
+use crate::clamp::count_in;
+use crate::clamp::least;
+use crate::sizes::SEARCH_COUNT;
+use crate::sizes::SEARCH_WIDTH;
+use crate::sizes::SUBSCRIPTIONS;
+use crate::sizes::TYPE_SIZE;
+use crate::target::target_match;
 use text::bytes::equal;
 ghost use mathlib.Core.Path.{_≡_};
+ghost use mathlib.Core.List.{[], _∷_, _++_};
+ghost use Prim.Native.Nat.{suc, _+_, _*_, _<_, _≤_, _^_};
+ghost use lib.ListN.{length};
 ghost use Rattle.text.specs.Bytes.{equal};
-ghost use Rattle.engine.specs.Target.{ssdpAll};
+ghost use Rattle.message.specs.Build.{typeMax};
+ghost use Rattle.engine.specs.Sizes.{subscriptionsMax};
+ghost use Rattle.engine.specs.Target.{ssdpAll, targetMatch};
+ghost use Rattle.engine.specs.Records.{anyAll};
+ghost use Rattle.engine.specs.Replies.{one};
+ghost use Rattle.engine.specs.Engine.{maskOf};
+ghost use Rattle.engine.specs.Telling.{Tells};
+ghost use Rattle.engine.specs.Arrays.{headPlaces, searchWidth, searchBytes, searchIn, searchAt, searchRows, searchCount, searchesIn, SearchArrays};
 
 // The subscriptions to be told: bit k for subscription k, and their number.
 pub struct Subscribers {
@@ -15,4 +34,112 @@ pub fn is_all(kind: &[u8]) -> bool
     ensures { λ r. ⌜ r ≡ equal (now (kind .entry)) ssdpAll ⌝ }
 {
     equal(kind, b"ssdp:all")
+}
+
+// How many subscriptions are held.
+pub(crate) fn count_of(head: &[u64]) -> usize
+    requires { ⌜ length (now head) ≡ headPlaces ⌝ }
+    ensures { λ r. ⌜ r ≡ searchCount (now (head .entry)) ⌝ }
+{
+    count_in(head, SEARCH_COUNT, SUBSCRIPTIONS)
+}
+
+// The type of subscription i.
+pub(crate) fn kind_at(searches: &[u8], i: usize) -> &[u8]
+    requires { ⌜ (i < subscriptionsMax) × (length (now searches) ≡ searchBytes) ⌝ }
+    ensures { λ r. ⌜ now r ≡ searchAt i (now (searches .entry)) ⌝ }
+{
+    let at = SEARCH_WIDTH * i;
+    let start = at + 1;
+    let end = start + least(searches[at] as usize, TYPE_SIZE);
+    &searches[start..end]
+}
+
+// A type, which fits, into a row.
+fn set_kind(row: &mut [u8], kind: &[u8])
+    requires { ⌜ (length (now row) ≡ searchWidth) × (length (now kind) ≤ typeMax) ⌝ }
+    ensures { λ _. ⌜ searchIn (now (row .exit)) ≡ now (kind .entry) ⌝ }
+{
+    row[0] = kind.len() as u8;
+    put(row, 1, kind);
+}
+
+// A type, which fits, behind the first n rows.
+pub(crate) fn push(searches: &mut [u8], n: usize, kind: &[u8])
+    requires { ⌜ (n < subscriptionsMax) × (length (now kind) ≤ typeMax) × (length (now searches) ≡ searchBytes) ⌝ }
+    ensures { λ _. ⌜ searchRows (suc n) (now (searches .exit)) ≡ searchRows n (now (searches .entry)) ++ (now (kind .entry) ∷ []) ⌝ }
+{
+    let a = SEARCH_WIDTH * n;
+    let e = a + SEARCH_WIDTH;
+    set_kind(&mut searches[a..e], kind);
+}
+
+// Whether subscription i is to `ssdp:all`.
+fn is_to_all(searches: &[u8], i: usize) -> bool
+    requires { ⌜ (i < subscriptionsMax) × (length (now searches) ≡ searchBytes) ⌝ }
+    ensures { λ r. ⌜ r ≡ equal (searchAt i (now (searches .entry))) ssdpAll ⌝ }
+{
+    is_all(kind_at(searches, i))
+}
+
+// Whether any subscription is to `ssdp:all`.
+pub(crate) fn any_all(head: &[u64], searches: &[u8]) -> bool
+    requires { ⌜ SearchArrays (now head) (now searches) ⌝ }
+    ensures { λ r. ⌜ r ≡ anyAll (searchesIn (now (head .entry)) (now (searches .entry))) ⌝ }
+{
+    let n = count_of(head);
+    let mut i = 0;
+    while i < n {
+        if is_to_all(searches, i) {
+            return true;
+        }
+        i += 1;
+    }
+    false
+}
+
+// Whether subscription i, as the search, matches a type.
+fn is_told(searches: &[u8], i: usize, kind: &[u8]) -> bool
+    requires { ⌜ (i < subscriptionsMax) × (length (now searches) ≡ searchBytes) ⌝ }
+    ensures { λ r. ⌜ r ≡ targetMatch (searchAt i (now (searches .entry))) (now (kind .entry)) ⌝ }
+{
+    target_match(kind_at(searches, i), kind)
+}
+
+// The mask with one bit more below it.
+fn below(mask: u32, bit: bool) -> u32
+    requires { ⌜ mask < 2147483648 ⌝ }
+    ensures { λ r. ⌜ r ≡ one bit + 2 * mask ⌝ }
+{
+    if bit {
+        return 1 + 2 * mask;
+    }
+    2 * mask
+}
+
+// Bit k is set when subscription k matches the type. From the last subscription to the first.
+fn mask_of(head: &[u64], searches: &[u8], kind: &[u8]) -> u32
+    requires { ⌜ SearchArrays (now head) (now searches) ⌝ }
+    ensures { λ r. ⌜ r ≡ maskOf (searchesIn (now (head .entry)) (now (searches .entry))) (now (kind .entry)) ⌝ }
+{
+    let mut i = count_of(head);
+    let mut mask: u32 = 0;
+    while 0 < i {
+        i -= 1;
+        let bit = is_told(searches, i, kind);
+        mask = below(mask, bit);
+    }
+    mask
+}
+
+// The subscriptions that a type concerns. The number told is the count of the mask's ones.
+pub(crate) fn told_of(head: &[u64], searches: &[u8], kind: &[u8]) -> Subscribers
+    requires { ⌜ SearchArrays (now head) (now searches) ⌝ }
+    ensures { λ r. ⌜ Tells (searchesIn (now (head .entry)) (now (searches .entry))) (now (kind .entry)) r ⌝ }
+{
+    let mask = mask_of(head, searches, kind);
+    Subscribers {
+        mask: mask,
+        told: u32::count_ones(mask),
+    }
 }

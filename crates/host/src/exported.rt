@@ -1,8 +1,8 @@
 // The engine's calls, as a host that is not Rattle links them: each is lent the arrays that it needs and hands them on. The contract of each is that of the
 // engine's own call, for every content of the arrays.
 use engine::advertisement::Endpoint;
+use engine::answer::Answer;
 use engine::calls;
-use engine::engine::Answer;
 use engine::sizes::Head;
 use engine::sizes::Links;
 use engine::sizes::Numbers;

@@ -8,7 +8,7 @@ use console::part;
 use dialogue::answer;
 use dialogue::record;
 use dialogue::session;
-use engine::engine::Answer;
+use engine::answer::Answer;
 use engine::sizes::HEAD_PLACES;
 use engine::sizes::Head;
 use engine::sizes::LINK_NUMBERS;

@@ -2,8 +2,8 @@
 // polls and what document 01 counts and refuses, and prints how many calls there were and how many differ.
 // differential/record/src/engine.rs made the lists and says what each field of a line is: one call a line.
 use engine::advertisement::Endpoint;
+use engine::answer::Answer;
 use engine::calls;
-use engine::engine::Answer;
 use engine::sizes::HEAD_PLACES;
 use engine::sizes::Head;
 use engine::sizes::LINK_NUMBERS;

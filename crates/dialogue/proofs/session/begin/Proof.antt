@@ -1,7 +1,7 @@
 -- `begin` meets its contract: the engine's `new`, and whether it was accepted.
 use mathlib.Core.Path.{refl, sym, _∙_, ap}
 use lib.Dec.{eqb}
-use Rattle.engine.specs.declared.engine.Answer.{Answer}
+use Rattle.engine.specs.declared.answer.Answer.{Answer}
 use borrow.Author.Needs.{needs}
 use Rattle.dialogue.proofs.session.begin.Statement.{statement}
 use Rattle.dialogue.proofs.session.begin.Tie as tie

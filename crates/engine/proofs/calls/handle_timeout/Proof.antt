@@ -16,7 +16,7 @@ use Rattle.engine.specs.Refusals.{checks}
 use Rattle.engine.specs.Replies.{aloneAt, groupAt, result, results, sumOf}
 use Rattle.engine.specs.Sizes.{outboxSize, timeMax}
 use Rattle.engine.specs.Tallies.{sends}
-use Rattle.engine.specs.declared.engine.Answer.{Answer}
+use Rattle.engine.specs.declared.answer.Answer.{Answer}
 use Rattle.engine.specs.declared.refresh_timer.RefreshTimer.{RefreshTimer}
 use borrow.Author.Needs.{needs}
 use borrow.Author.Tests.{ltb-false}

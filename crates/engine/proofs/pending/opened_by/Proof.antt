@@ -6,13 +6,13 @@ use borrow.Author.Needs.{needs}
 use Rattle.engine.proofs.pending.opened_by.Statement.{statement}
 use Rattle.engine.proofs.pending.opened_by.Tie as tie
 
-text80-requires : tie.Need-text80-requires
-text80-requires c κs = search needs
+type-bytes-requires : tie.Need-type-bytes-requires
+type-bytes-requires c κs = search needs
 
 returns : tie.Need-returns
 returns c =
     let s = c .before .before in
-    (refl, c .text80 .ensures ∙ take-all typeMax (s .args .target .now) (s .pre))
+    (refl, c .type-bytes .ensures ∙ take-all typeMax (s .args .target .now) (s .pre))
 
 pub opened-by-spec : {M : Type 1} → statement M
-opened-by-spec = tie.close (tie.spec text80-requires returns)
+opened-by-spec = tie.close (tie.spec type-bytes-requires returns)

@@ -1,0 +1,34 @@
+-- There is room for what one address gets.
+use mathlib.Core.Path.{sym}
+use mathlib.Core.List.{List}
+use Rattle.engine.specs.Records.{Record, allFrom}
+use Rattle.engine.specs.Arrays.{namesIn, searchesIn}
+use Rattle.engine.proofs.Sending.{sent}
+use Rattle.engine.proofs.Answering.{sent-as, sent-nothing, chosen, not-chosen}
+use Rattle.engine.proofs.TableRuns.{all-room}
+use borrow.Author.Needs.{needs}
+use Rattle.engine.proofs.send.send_if_stored.Statement.{statement}
+use Rattle.engine.proofs.send.send_if_stored.Tie as tie
+
+abbrev all : tie.Start → List Record
+all s = allFrom (searchesIn (s .args .head .now) (s .args .searches .now)) (namesIn (s .args .head .now) (s .args .numbers .now) (s .args .texts .now)) (s .args .address)
+
+send-all-requires : tie.Need-send-all-requires
+send-all-requires c κs =
+    let s = c .before .before .before .before .before .before .before in
+    let a = s .args in
+    (s .pre .0, s .pre .1, all-room (a .outbox .now) (s .pre .2) (a .head .now) (a .searches .now) (a .numbers .now) (a .texts .now) (a .address))
+
+same-length : tie.Need-same-length
+same-length c = search needs
+
+returns : tie.Need-returns
+returns c = sent-as (sent (c .before .before .send-all .ensures)) (sym (chosen (all (c .before .before .before .before .before .before .before .before .before .before)) (c .before .before .before .before .if1 .taken)))
+
+returns-2 : tie.Need-returns-2
+returns-2 c =
+    let s = c .before .before .before .before .before .before in
+    sent-as (sent-nothing (s .args .outbox .now)) (sym (not-chosen (all s) (c .if1 .left)))
+
+pub send-if-stored-spec : {M : Type 1} → statement M
+send-if-stored-spec = tie.close (tie.spec send-all-requires same-length returns returns-2)

@@ -9,17 +9,29 @@ ghost use Rattle.engine.specs.Claim.{Log, Claim};
 ghost use Rattle.engine.specs.EveryList.{Word, Lent, Logged};
 ghost use Rattle.engine.specs.StarCases.{allHold, starCases};
 ghost use Rattle.engine.specs.declared.answer.Answer.{Answer};
-ghost use Rattle.engine.proofs.Functions.{News, Gives};
+ghost use Rattle.engine.proofs.Contracts.{News, Gives};
+ghost use Rattle.engine.proofs.Functions.{functions};
+ghost use Rattle.host.proofs.Exports.{exports};
 
 // Demand 3: it holds of every list of public calls, whatever their arguments, whose answers are what the functions' contracts give.
 // The claim itself is stated in engine/specs/Claim.antt.
 pub fn demand_three()
-    ensures { λ _. ⌜ ((seed time : ℕ) (calls : List Call) (answers : List Answer) (last : Engine) (log : Log News Gives seed time calls answers last) → Claim log) ⌝ }
+    ensures { λ _. ⌜ ((seed time : ℕ) (calls : List Call) (answers : List Answer) (last : Engine) (log : Log (News functions) (Gives functions) seed time calls answers last) → Claim log) ⌝ }
 {}
 
 // And it is about every list: each list of calls, whose numbers are in the range of their types, has a log, whatever outboxes are lent to them.
 pub fn each_has_a_log()
-    ensures { λ _. ⌜ ((seed time : ℕ) → Word seed → (lent : List (Call × List ℕ)) → Lent lent → Logged News Gives seed time lent) ⌝ }
+    ensures { λ _. ⌜ ((seed time : ℕ) → Word seed → (lent : List (Call × List ℕ)) → Lent lent → Logged (News functions) (Gives functions) seed time lent) ⌝ }
+{}
+
+// Demand 3 of what a customer links: the same of every list of the exported calls (host/src/exported.rt), whose answers are what the exports' own contracts give.
+pub fn demand_three_exported()
+    ensures { λ _. ⌜ ((seed time : ℕ) (calls : List Call) (answers : List Answer) (last : Engine) (log : Log (News exports) (Gives exports) seed time calls answers last) → Claim log) ⌝ }
+{}
+
+// And each list of exported calls has a log.
+pub fn each_exported_has_a_log()
+    ensures { λ _. ⌜ ((seed time : ℕ) → Word seed → (lent : List (Call × List ℕ)) → Lent lent → Logged (News exports) (Gives exports) seed time lent) ⌝ }
 {}
 
 // Document 01's ★ cases, one table.

@@ -6,7 +6,8 @@ use Rattle.engine.specs.Claim.{Log, Claim}
 use Rattle.engine.specs.EveryList.{Word, Lent, Logged}
 use Rattle.engine.specs.Arrays.{Engine}
 use Rattle.engine.specs.declared.answer.Answer.{Answer}
-use Rattle.engine.proofs.Functions.{News, Gives, functions-claim, functions-logged}
+use Rattle.engine.proofs.Contracts.{News, Gives}
+use Rattle.engine.proofs.Functions.{functions, functions-claim, functions-logged}
 use Rattle.engine.proofs.calls.new.Statement as new
 use Rattle.engine.proofs.calls.new.Met as new-met
 use Rattle.engine.proofs.calls.new_link.Statement as new-link
@@ -45,8 +46,8 @@ pub record Certificate (M : Type 1) : Type 2 where
   pub on-data-meets : on-data.statement M
   pub handle-timeout-meets : handle-timeout.statement M
   pub reset-refresh-timer-meets : reset-refresh-timer.statement M
-  pub claim : {seed time : ℕ} {cs : List Call} {as′ : List Answer} {e : Engine} → (l : Log News Gives seed time cs as′ e) → Claim l
-  pub logs : (seed time : ℕ) → Word seed → (lent : List (Call × List ℕ)) → Lent lent → Logged News Gives seed time lent
+  pub claim : {seed time : ℕ} {cs : List Call} {as′ : List Answer} {e : Engine} → (l : Log (News functions) (Gives functions) seed time cs as′ e) → Claim l
+  pub logs : (seed time : ℕ) → Word seed → (lent : List (Call × List ℕ)) → Lent lent → Logged (News functions) (Gives functions) seed time lent
 
 pub certificate : (M : Type 1) → Certificate M
 certificate M = record {

@@ -53,5 +53,6 @@ pub mod Ranges
 pub mod Demand3
 pub mod EveryList
 pub mod NothingDue
+pub mod Contracts
 pub mod Functions
 pub mod Certificate

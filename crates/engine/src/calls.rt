@@ -224,8 +224,8 @@ pub fn deleted_address(
         return refused(head, numbers, number);
     }
     let held = links::held_at(head, links, index);
-    let n = news::address_gone(head, links, held, address);
-    set_count(head, LINK_COUNT, n);
+    let remaining = news::address_gone(head, links, held, address);
+    set_count(head, LINK_COUNT, remaining);
     accepted(head, numbers, 0, nothing())
 }
 
@@ -304,8 +304,8 @@ pub fn new_address(
         numbers,
         texts,
     );
-    let n = news::address_told(head, links, held, address);
-    set_count(head, LINK_COUNT, n);
+    let known = news::address_told(head, links, held, address);
+    set_count(head, LINK_COUNT, known);
     accepted(head, numbers, k, nothing())
 }
 

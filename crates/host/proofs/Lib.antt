@@ -1,0 +1,3 @@
+-- The claims about lists of exported calls.
+pub mod Exports
+pub mod Certificate

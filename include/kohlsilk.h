@@ -28,6 +28,9 @@ extern "C" {
 #define KOHLSILK_TYPE_SIZE 80
 #define KOHLSILK_LOCATION_SIZE 120
 
+/* The latest time, in milliseconds: a call with a later one is refused. */
+#define KOHLSILK_TIME_MAX UINT64_C(0x7fffffffffffffff)
+
 /* What a record takes of an outbox, the most records of a call, and the length of an outbox that no call refuses. */
 #define KOHLSILK_RECORD 524
 #define KOHLSILK_RECORDS ((2 * KOHLSILK_NAMES + KOHLSILK_SUBSCRIPTIONS) * KOHLSILK_LINKS * KOHLSILK_ADDRESSES)
@@ -44,7 +47,7 @@ extern "C" {
 
 enum kohlsilk_refusal {
     KOHLSILK_ACCEPTED = 0,
-    KOHLSILK_TIME_LATE = 1,         /* a time above 2^63 - 1 */
+    KOHLSILK_TIME_LATE = 1,         /* a time above KOHLSILK_TIME_MAX */
     KOHLSILK_OUTBOX_SHORT = 2,      /* an outbox under KOHLSILK_OUTBOX bytes */
     KOHLSILK_TEXT_OVER_SIZE = 3,    /* a type, a name or a location over its size (in a build a location may have 135 bytes) */
     KOHLSILK_TEXT_NOT_GOOD = 4,     /* a text not UTF-8, holding a line end, or starting or ending in white space */

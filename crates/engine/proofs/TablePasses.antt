@@ -144,11 +144,11 @@ module _ (due : ℕ) (q : Query) (kind answer : Text) where
   one-waits (Unicast d s r) e = (refl, refl)
 
 -- the type that an opened reply answers in
-module _ {all : Bool} (kind target : Text) where
-  pub own-type : all ≡ true → kind ≡ cond all kind target
-  own-type e = rw e
+module _ {all : Bool} (i : ℕ) (kind target : Text) (needed : ResponseNeeded) (l : List Advertisement) where
+  pub own-type : {n : ResponseNeeded} {t : Text} → n ≡ needed → t ≡ kind → all ≡ true → changeAt blank i (withActive n t) l ≡ changeAt blank i (withActive needed (cond all kind target)) l
+  own-type p q e = rw (p, q, e)
 
-  pub target-type : all ≡ false → target ≡ cond all kind target
+  pub target-type : all ≡ false → changeAt blank i (withActive needed target) l ≡ changeAt blank i (withActive needed (cond all kind target)) l
   target-type e = rw e
 
 -- ---- one entry: a search
@@ -174,14 +174,13 @@ module _ (due : ℕ) (q : Query) (a : Advertisement) where
           }
 
       -- no reply waits: what the search opens is stored
-      pub ask-opens : {l′ : List Advertisement} {m : ResponseNeeded} {all : Bool} (x y : ActiveAdvertisement) → Opening (q .target) due (q .sender) (q .receiver) all x
+      pub ask-opens : {l′ : List Advertisement} {m : ResponseNeeded} {all : Bool} (x : ActiveAdvertisement) → Opening (q .target) due (q .sender) (q .receiver) all x
           → m ≡ a .needed → isNone m ≡ true
-          → (y .«response_needed» ≡ x .«response_needed») × (take (y .«answer_len») (y .answer) ≡ cond all (a .kind) (take (x .«answer_len») (x .answer)))
-          → l′ ≡ changeAt blank i (withActive (y .«response_needed») (take (y .«answer_len») (y .answer))) l
+          → l′ ≡ changeAt blank i (withActive (x .«response_needed») (cond all (a .kind) (take (x .«answer_len») (x .answer)))) l
           → PassOne (asked due q) (matchedBy q) (joinedBy q) blank i l l′ 1 0
-      ask-opens x y o e z p r =
+      ask-opens x o e z r =
           let k = none-waits due q (a .kind) (a .answer) (a .needed) (ap isNone (sym e) ∙ z) in
-          ask-hit (p .0 ∙ o .reply ∙ k .reply) (p .1 ∙ (λ j. cond (o .every j) (a .kind) (o .answer j)) ∙ k .type) r (k .none) (omega arith)
+          ask-hit (o .reply ∙ k .reply) ((λ j. cond (o .every j) (a .kind) (o .answer j)) ∙ k .type) r (k .none) (omega arith)
 
       -- one waits: the joined reply is stored, and the answer type stays
       pub ask-joins : {l′ : List Advertisement} {m n : ResponseNeeded} → m ≡ a .needed → isNone m ≡ false → n ≡ askedNeed true due q m

@@ -18,6 +18,7 @@ use Rattle.text.proofs.Comparing.{equal-is, equal-refl}
 use Rattle.text.proofs.Finding.{lastIndexOf-is}
 use Rattle.engine.specs.Target.{ssdpAll, colon, lastColon, hasColon, basePart, version, atLeast, versionMatch, targetMatch}
 use Rattle.engine.specs.Wanted.{versioned, wantedOf, laterIn}
+use Rattle.engine.specs.declared.wanted.Wanted.{Wanted}
 use Rattle.engine.specs.declared.wanted.Wanted.the-variants.{All, Same, Version}
 use Rattle.engine.proofs.Parts.{both-true, rest-from}
 use Rattle.engine.proofs.Matching.{last-found}
@@ -38,6 +39,22 @@ module _ (s : List ℕ) where
   found-number i n e p h q =
       let m : ltb (lastColon s) (length s) ≡ true = lt-ltb (lastColon s) (length s) (omega (arith, p)) in
       rw (e, m, q, rest-from s (i + 1), p)
+
+-- every type is wanted by `ssdp:all` alone
+abbrev pub everyType : Wanted → Bool
+everyType All = true
+everyType Same = false
+everyType (Version i n) = false
+
+pub every-type : {w : Wanted} (s : List ℕ) → w ≡ wantedOf s → everyType w ≡ equal s ssdpAll
+unfolding wantedOf
+every-type s e = ap everyType e ∙ go (equal s ssdpAll) (hasColon s) (version s)
+  where
+    go : (all colons : Bool) (n : Number) → everyType (cond all All (cond colons (versioned (lastColon s) n) Same)) ≡ all
+    go true b n = refl
+    go false true (Value n) = refl
+    go false true Invalid = refl
+    go false false n = refl
 
 -- ---- the tests of a later version
 module _ (s : List ℕ) (i n : ℕ) (t : List ℕ) where

@@ -3,7 +3,9 @@
 use crate::advertisement::Endpoint;
 use crate::advertisement::ResponseNeeded;
 use crate::announce::Announcement;
+use crate::field::front;
 use crate::names;
+use crate::names::ActiveAdvertisement;
 use crate::outbox::send_response;
 use crate::replies::is_due;
 use crate::salvo::announce_name;
@@ -17,17 +19,18 @@ ghost use Rattle.engine.specs.Records.{flat, replyRecords, dueRecords, r
 ghost use Rattle.engine.specs.Layout.{Room, Sends};
 ghost use Rattle.engine.specs.Arrays.{headPlaces, entryAt, namesIn, NameArrays};
 
-// Record k: the reply of name i to a lone searcher, from the address that its search reached.
+// Record k: the reply of name i to a lone searcher, in the answer's type, from the address that the search reached.
 fn respond(
     outbox: &mut [u8],
     k: usize,
     to: Endpoint,
     source: u32,
+    answer: &[u8],
     numbers: &[u64],
     texts: &[u8],
     i: usize,
 ) -> usize
-    requires { ⌜ (i < advertisementsMax) × NameArrays (now numbers) (now texts) × (recordSize * (k + 1) ≤ length (now outbox)) ⌝ }
+    requires { ⌜ (i < advertisementsMax) × NameArrays (now numbers) (now texts) × (now answer ≡ entryAt i (now numbers) (now texts) .answer) × (recordSize * (k + 1) ≤ length (now outbox)) ⌝ }
     ensures { λ r. ⌜ Sends (now (outbox .entry)) k (responseTo (entryAt i (now (numbers .entry)) (now (texts .entry))) to source ∷ []) (now (outbox .exit)) r ⌝ }
 {
     send_response(
@@ -35,7 +38,7 @@ fn respond(
         k,
         source,
         to,
-        names::answer_at(numbers, texts, i),
+        answer,
         names::name_at(numbers, texts, i),
         names::location_at(numbers, texts, i),
     )
@@ -47,21 +50,23 @@ fn reply(
     k: usize,
     up: [u32; SOURCES],
     n: usize,
-    needed: ResponseNeeded,
+    a: ActiveAdvertisement,
     numbers: &[u64],
     texts: &[u8],
     i: usize,
 ) -> usize
-    requires { ⌜ (i < advertisementsMax) × NameArrays (now numbers) (now texts) × Room (now outbox) k (replyRecords (take n up) (entryAt i (now numbers) (now texts)) needed) ⌝ }
-    ensures { λ r. ⌜ Sends (now (outbox .entry)) k (replyRecords (take n up) (entryAt i (now (numbers .entry)) (now (texts .entry))) needed) (now (outbox .exit)) r ⌝ }
+    requires { ⌜ (i < advertisementsMax) × NameArrays (now numbers) (now texts) × (take (a .«answer_len») (a .answer) ≡ entryAt i (now numbers) (now texts) .answer) × Room (now outbox) k (replyRecords (take n up) (entryAt i (now numbers) (now texts)) (a .«response_needed»)) ⌝ }
+    ensures { λ r. ⌜ Sends (now (outbox .entry)) k (replyRecords (take n up) (entryAt i (now (numbers .entry)) (now (texts .entry))) (a .«response_needed»)) (now (outbox .exit)) r ⌝ }
 {
+    let needed = a.response_needed;
     match needed {
         ResponseNeeded::None => k,
         ResponseNeeded::Multicast(_) => {
             announce_name(outbox, k, up, n, Announcement::Alive, numbers, texts, i)
         }
         ResponseNeeded::Unicast(_, sender, receiver) => {
-            respond(outbox, k, sender, receiver, numbers, texts, i)
+            let answer = front(&a.answer, a.answer_len);
+            respond(outbox, k, sender, receiver, answer, numbers, texts, i)
         }
     }
 }
@@ -80,9 +85,10 @@ fn reply_if_due(
     requires { ⌜ (i < advertisementsMax) × NameArrays (now numbers) (now texts) × Room (now outbox) k (dueRecords time (take n up) (entryAt i (now numbers) (now texts))) ⌝ }
     ensures { λ r. ⌜ Sends (now (outbox .entry)) k (dueRecords time (take n up) (entryAt i (now (numbers .entry)) (now (texts .entry)))) (now (outbox .exit)) r ⌝ }
 {
-    let needed = names::reply_at(numbers, i);
+    let a = names::active_at(numbers, texts, i);
+    let needed = a.response_needed;
     if is_due(needed, time) {
-        return reply(outbox, k, up, n, needed, numbers, texts, i);
+        return reply(outbox, k, up, n, a, numbers, texts, i);
     }
     k
 }

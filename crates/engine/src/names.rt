@@ -103,14 +103,6 @@ pub(crate) fn location_at<'a>(numbers: &[u64], texts: &'a [u8], i: usize) -> &'a
     text_in(texts, TEXTS_WIDTH * i + LOCATION_PLACE, LOCATION_SIZE, len)
 }
 
-pub(crate) fn answer_at<'a>(numbers: &[u64], texts: &'a [u8], i: usize) -> &'a [u8]
-    requires { ⌜ (i < advertisementsMax) × NameArrays (now numbers) (now texts) ⌝ }
-    ensures { λ r. ⌜ now r ≡ entryAt i (now (numbers .entry)) (now (texts .entry)) .answer ⌝ }
-{
-    let len = numbers[NUMBERS_WIDTH * i + ANSWER_LENGTH];
-    text_in(texts, TEXTS_WIDTH * i + ANSWER_PLACE, TYPE_SIZE, len)
-}
-
 // A type's whole field of a row, from its place in the texts on.
 fn field_at(texts: &[u8], place: usize) -> [u8; TYPE_SIZE]
     requires { ⌜ place + typeMax ≤ length (now texts) ⌝ }

@@ -4,7 +4,6 @@ use crate::advertisement::ResponseNeeded;
 use crate::delay::delay_of;
 use crate::field::type_bytes;
 use crate::names::ActiveAdvertisement;
-use crate::names::active_at;
 use crate::names::count_of;
 use crate::names::kind_at;
 use crate::names::own_type_at;
@@ -18,10 +17,10 @@ use crate::replies::is_due;
 use crate::replies::opens;
 use crate::replies::sooner_of;
 use crate::replies::wait_of;
-use crate::subscription::is_all;
 use crate::wanted::Wanted;
 use crate::wanted::wanted_of;
 use crate::wanted::wants;
+use crate::wanted::wants_all;
 ghost use mathlib.Core.Path.{_≡_};
 ghost use mathlib.Core.Bool.{true, cond};
 ghost use mathlib.Core.List.{List};
@@ -29,13 +28,12 @@ ghost use Prim.Native.Nat.{ℕ, _<_, _≤_};
 ghost use lib.ListN.{length, take};
 ghost use Rattle.message.specs.Build.{typeMax};
 ghost use Rattle.engine.specs.Sizes.{advertisementsMax, timeMax};
-ghost use Rattle.engine.specs.Delay.{delay};
 ghost use Rattle.engine.specs.Target.{targetMatch};
 ghost use Rattle.engine.specs.Wanted.{wantedOf};
 ghost use Rattle.engine.specs.Replies.{asked, matchedBy, joinedBy, served, aloneAt, groupAt, waiting, soonest};
 ghost use Rattle.engine.specs.Passes.{askedBy};
-ghost use Rattle.engine.specs.Arrays.{headPlaces, numbersSize, entryAt, replyAt, entries, namesIn, NameArrays};
-ghost use Rattle.engine.specs.Changes.{blank, PassOne, PassAll, Opening, AskedBy};
+ghost use Rattle.engine.specs.Arrays.{headPlaces, numbersSize, entryAt, entries, namesIn, NameArrays};
+ghost use Rattle.engine.specs.Changes.{changeAt, blank, withActive, PassOne, PassAll, Opening, AskedBy};
 ghost use Rattle.engine.specs.declared.advertisement.ResponseNeeded.the-variants.{Unicast};
 
 // How many replies wait, and the earliest of an instant and theirs.
@@ -87,22 +85,18 @@ fn is_asked(numbers: &[u64], texts: &[u8], i: usize, target: &[u8], wanted: Want
     wants(target, wanted, kind_at(numbers, texts, i))
 }
 
-// What a search opens at name i: `ssdp:all`, which asks for all types, is answered in the name's own type.
-fn opened_at(
-    numbers: &[u64],
-    texts: &[u8],
-    i: usize,
-    all: bool,
-    opened: ActiveAdvertisement,
-) -> ActiveAdvertisement
+// Opens the reply of name i. `ssdp:all`, which asks for all types, is answered in the name's own type.
+fn open_at(numbers: &mut [u64], texts: &mut [u8], i: usize, all: bool, opened: ActiveAdvertisement)
     requires { ⌜ (i < advertisementsMax) × NameArrays (now numbers) (now texts) ⌝ }
-    ensures { λ r. ⌜ (r .«response_needed» ≡ opened .«response_needed») × (take (r .«answer_len») (r .answer) ≡ cond all (entryAt i (now (numbers .entry)) (now (texts .entry)) .kind) (take (opened .«answer_len») (opened .answer))) ⌝ }
+    ensures { λ _. ⌜ ((n : ℕ) → i < n → n ≤ advertisementsMax → entries n (now (numbers .exit)) (now (texts .exit)) ≡ changeAt blank i (withActive (opened .«response_needed») (cond all (entryAt i (now (numbers .entry)) (now (texts .entry)) .kind) (take (opened .«answer_len») (opened .answer)))) (entries n (now (numbers .entry)) (now (texts .entry)))) ⌝ }
 {
     if all {
         let needed = opened.response_needed;
-        return own_type_at(numbers, texts, i, needed);
+        let own = own_type_at(numbers, texts, i, needed);
+        store_active(numbers, texts, i, own);
+    } else {
+        store_active(numbers, texts, i, opened);
     }
-    opened
 }
 
 // How many names a search matched, and how many waiting replies it joined.
@@ -125,11 +119,9 @@ fn ask_for(
     requires { ⌜ (i < advertisementsMax) × NameArrays (now numbers) (now texts) ⌝ }
     ensures { λ r. ⌜ ((target : List ℕ) (n : ℕ) → Opening target due sender receiver all opened → targetMatch target (entryAt i (now (numbers .entry)) (now (texts .entry)) .kind) ≡ true → i < n → n ≤ advertisementsMax → PassOne (asked due (askedBy target sender receiver)) (matchedBy (askedBy target sender receiver)) (joinedBy (askedBy target sender receiver)) blank i (entries n (now (numbers .entry)) (now (texts .entry))) (entries n (now (numbers .exit)) (now (texts .exit))) (r .matched) (r .joined)) ⌝ }
 {
-    let a = active_at(numbers, texts, i);
-    let needed = a.response_needed;
+    let needed = reply_at(numbers, i);
     if opens(needed) {
-        let after = opened_at(numbers, texts, i, all, opened);
-        store_active(numbers, texts, i, after);
+        open_at(numbers, texts, i, all, opened);
         return Asked {
             matched: 1,
             joined: 0,
@@ -182,7 +174,7 @@ fn ask_all(
 {
     let n = count_of(head);
     let wanted = wanted_of(target);
-    let all = is_all(target);
+    let all = wants_all(wanted);
     let opened = opened_by(target, due, sender, receiver);
     let mut matched = 0;
     let mut joined = 0;

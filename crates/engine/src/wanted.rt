@@ -3,9 +3,11 @@ use text::bytes;
 use text::number;
 use text::number::Number;
 ghost use mathlib.Core.Path.{_≡_};
-ghost use Prim.Native.Nat.{_<_};
+ghost use mathlib.Core.List.{List};
+ghost use Prim.Native.Nat.{ℕ, _<_};
 ghost use lib.ListN.{length};
-ghost use Rattle.engine.specs.Target.{targetMatch, lastColon};
+ghost use Rattle.text.specs.Bytes.{equal};
+ghost use Rattle.engine.specs.Target.{ssdpAll, targetMatch};
 ghost use Rattle.engine.specs.Wanted.{wantedOf, laterIn};
 
 const COLON: u8 = b':';
@@ -65,5 +67,16 @@ pub(crate) fn wants(search: &[u8], wanted: Wanted, candidate: &[u8]) -> bool
         Wanted::All => true,
         Wanted::Same => false,
         Wanted::Version(i, w) => is_later(search, i, w, candidate),
+    }
+}
+
+// Whether it asks for every type.
+pub(crate) fn wants_all(wanted: Wanted) -> bool
+    ensures { λ r. ⌜ ((search : List ℕ) → wanted ≡ wantedOf search → r ≡ equal search ssdpAll) ⌝ }
+{
+    match wanted {
+        Wanted::All => true,
+        Wanted::Same => false,
+        Wanted::Version(_, _) => false,
     }
 }

@@ -1,4 +1,5 @@
 //! Lists written by hand: what the papers single out. Each is read line by line like a random one.
+use judge::{LOCATION_SIZE, MAX_TIME, NAMES, NAME_SIZE, SUBSCRIPTIONS, TYPE_SIZE};
 
 /// Document 01's example.
 const EXAMPLE: &str = "new\t0\t0
@@ -28,10 +29,10 @@ fn largest() -> String {
     for link in 1..=3 {
         lines += &format!("link\t{link}\t4161\t0\naddr\t{link}\t10.0.{link}.1\naddr\t{link}\t10.0.{link}.2\n");
     }
-    for k in 0..8 {
-        lines += &format!("advertise\tu{k}\tt:{k}\t://{}\n", "/".repeat(117));
+    for k in 0..NAMES {
+        lines += &format!("advertise\tu{k}\tt:{k}\t://{}\n", "/".repeat(LOCATION_SIZE - 3));
     }
-    for k in 0..4 {
+    for k in 0..SUBSCRIPTIONS {
         lines += &format!("subscribe\tt:{k}\n");
     }
     for from in ["10.0.0.8\t1", "10.0.0.9\t1"] {
@@ -47,14 +48,15 @@ fn largest() -> String {
 fn sizes() -> String {
     let text = |n: usize| "x".repeat(n);
     let mut lines = String::from(UP);
-    for (name, kind, location) in [(128, 80, 120), (129, 80, 120), (128, 81, 120), (128, 80, 121), (0, 0, 0)] {
+    let (n, t, l) = (NAME_SIZE, TYPE_SIZE, LOCATION_SIZE);
+    for (name, kind, location) in [(n, t, l), (n + 1, t, l), (n, t + 1, l), (n, t, l + 1), (0, 0, 0)] {
         lines += &format!("advertise\t{}\t{}\t{}\n", text(name), text(kind), text(location));
     }
-    lines += &format!("advertise\t u\tt\t{}\nadvertise\tu \tt\t/\nadvertise\tu\t\u{3000}t\t/\nadvertise\tu\tt\t/\u{a0}\n", text(121));
+    lines += &format!("advertise\t u\tt\t{}\nadvertise\tu \tt\t/\nadvertise\tu\t\u{3000}t\t/\nadvertise\tu\tt\t/\u{a0}\n", text(l + 1));
     lines += "advertise\tu\u{200b}\t\u{feff}t\t\u{180e}\nadvertise\ta\rb\tt\t/\n";
-    lines += &format!("subscribe\t{}\nsubscribe\t{}\nsubscribe\t\nsubscribe\t\u{2028}\n", text(80), text(81));
+    lines += &format!("subscribe\t{}\nsubscribe\t{}\nsubscribe\t\nsubscribe\t\u{2028}\n", text(TYPE_SIZE), text(TYPE_SIZE + 1));
     lines += &format!("deadvertise\t{}\ndeadvertise\t\n", text(4000));
-    for target in [text(80), text(81), format!("{}:1", text(78)), String::new()] {
+    for target in [text(TYPE_SIZE), text(TYPE_SIZE + 1), format!("{}:1", text(TYPE_SIZE - 2)), String::new()] {
         for mx in ["1", "0", "+0", "256", "255", ""] {
             lines += &search(5, "10.0.0.9\t1", "10.0.0.1", &target, mx);
         }
@@ -116,7 +118,7 @@ fn masks() -> String {
 
 /// At and above the last instant: what is due then is never served.
 fn end_of_time() -> Vec<String> {
-    let last = (1u64 << 63) - 1;
+    let last = MAX_TIME;
     let mut lines = format!("new\t4294967295\t{last}\nadvertise\tu\tt\t/\ntimeout\t{last}\n");
     lines += &search(last, "10.0.0.9\t1", "10.0.0.1", "t", "5");
     lines += &format!("timeout\t{last}\ntimeout\t{}\ntimeout\t{}\nreset\t{last}\n", last + 1, u64::MAX);

@@ -3,7 +3,7 @@
 use crate::datagrams;
 use crate::dice::Dice;
 use crate::directed;
-use judge::{Front, Program, MAX_TIME};
+use judge::{Front, Program, MAX_TIME, NAME_SIZE, OUTBOX, TYPE_SIZE};
 
 /// One list under way.
 pub struct List {
@@ -193,8 +193,8 @@ impl List {
 
     fn kind(&mut self) -> Vec<u8> {
         match self.dice.below(40) {
-            0..=1 => sized("t:", 80 + self.dice.below(2), "1"),
-            2 => sized("x", 80 + self.dice.below(2), ":1"),
+            0..=1 => sized("t:", TYPE_SIZE + self.dice.below(2), "1"),
+            2 => sized("x", TYPE_SIZE + self.dice.below(2), ":1"),
             3 => self.odd_text(),
             4..=12 => self.dice.pick(&KINDS).as_bytes().to_vec(),
             _ => self.dice.pick(&KINDS[..7]).as_bytes().to_vec(),
@@ -203,7 +203,7 @@ impl List {
 
     fn name(&mut self) -> Vec<u8> {
         match self.dice.below(40) {
-            0..=1 => sized("u", 128 + self.dice.below(2), "1"),
+            0..=1 => sized("u", NAME_SIZE + self.dice.below(2), "1"),
             2 => self.odd_text(),
             _ => self.dice.pick(&NAMES).as_bytes().to_vec(),
         }
@@ -253,8 +253,8 @@ impl List {
 
     fn trace_line(&mut self) -> Vec<u8> {
         match self.dice.below(4) {
-            0 => format!("outbox\t{}", self.dice.pick(&[62_880, 62_880, 62_881, 65_536, 62_879, 0, 65_537])).into(),
-            1 => b"outbox\t62880".to_vec(),
+            0 => format!("outbox\t{}", self.dice.pick(&[OUTBOX, OUTBOX, OUTBOX + 1, 65_536, OUTBOX - 1, 0, 65_537])).into(),
+            1 => format!("outbox\t{OUTBOX}").into(),
             _ => {
                 let length = self.dice.pick(&[0, 1, 3, 4, 4, 5, 15, 16, 16, 17, 32, 33]);
                 let hex: String = (0..length).map(|_| format!("{:02x}", self.dice.below(3))).collect();

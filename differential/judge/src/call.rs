@@ -1,4 +1,5 @@
 //! The calls of document 01's engine with their arguments, and what a call answers.
+use crate::RECORD;
 use std::net::Ipv4Addr;
 
 /// One call on an engine. Texts and datagrams are any bytes; `lent` bytes of outbox come with each call.
@@ -39,7 +40,7 @@ impl Record {
         let Record { to, from, message } = self;
         let length = (message.len() as u16).to_be_bytes();
         let mut bytes = [&to.address.octets()[..], &to.port.to_be_bytes(), &from.octets(), &length, message].concat();
-        bytes.resize(524, 0);
+        bytes.resize(RECORD, 0);
         bytes
     }
 }

@@ -1,12 +1,22 @@
 //! Document 01's engine and ledger, written from its text alone: the refusals in their order, the records that a call
 //! sends, the six counts. Only the texts of messages (`parse`, `build_*`) are the Rust's own, as the document has it.
 use crate::call::{Answer, Call, Peer, Record};
+use crate::refusal;
 use crate::text;
 use cotton_ssdp::message::{self, Message};
 use std::collections::BTreeMap;
 use std::net::Ipv4Addr;
 
+/// 'Who can be turned away', 'Table sizes', 'Outbox'.
 pub const MAX_TIME: u64 = (1 << 63) - 1;
+pub const NAMES: usize = 8;
+pub const SUBSCRIPTIONS: usize = 4;
+pub const LINKS: usize = 3;
+pub const ADDRESSES: usize = 2;
+pub const NAME_SIZE: usize = 128;
+pub const TYPE_SIZE: usize = 80;
+pub const LOCATION_SIZE: usize = 120;
+pub const RECORD: usize = 524;
 pub const OUTBOX: usize = 62_880;
 const GROUP: Peer = Peer { address: Ipv4Addr::new(239, 255, 255, 250), port: 1900 };
 const ALL: &[u8] = b"ssdp:all";
@@ -44,7 +54,7 @@ struct Link {
 impl Document {
     /// The engine that `new` gives: 'a refused `new` gives an engine with that seed at time 0'.
     pub fn new(seed: u32, now: u64) -> (Self, Answer) {
-        let refusal = if now > MAX_TIME { 1 } else { 0 };
+        let refusal = if now > MAX_TIME { refusal::TIME_LATE } else { 0 };
         let held = Self {
             seed,
             salvo: if refusal == 0 { now } else { 0 },
@@ -74,31 +84,31 @@ impl Document {
 
     /// 'Who can be turned away': the first number, in the order listed, that the call meets; 0 for none.
     pub fn refusal(&self, call: &Call, lent: usize) -> u32 {
-        let late = |now: u64| (now > MAX_TIME, 1);
-        let short = (lent < OUTBOX, 2);
-        let over = |texts: &[(&[u8], usize)]| (texts.iter().any(|(t, size)| t.len() > *size), 3);
-        let bad = |texts: &[(&[u8], usize)]| (texts.iter().any(|(t, _)| !text::good(t)), 4);
-        let unnamed = |index: u32| (index == 0, 11);
-        let odd = |address: &[u8]| (address.len() != 4 && address.len() != 16, 12);
+        let late = |now: u64| (now > MAX_TIME, refusal::TIME_LATE);
+        let short = (lent < OUTBOX, refusal::OUTBOX_SHORT);
+        let over = |texts: &[(&[u8], usize)]| (texts.iter().any(|(t, size)| t.len() > *size), refusal::TEXT_OVER_SIZE);
+        let bad = |texts: &[(&[u8], usize)]| (texts.iter().any(|(t, _)| !text::good(t)), refusal::TEXT_NOT_GOOD);
+        let unnamed = |index: u32| (index == 0, refusal::INDEX_ZERO);
+        let odd = |address: &[u8]| (address.len() != 4 && address.len() != 16, refusal::ADDRESS_LENGTH);
         first(match call {
             Call::New { now, .. } | Call::Reset { now } => vec![late(*now)],
             Call::Link { index, flags, outcome } => {
                 let new = flags & 0x1000 != 0 && !self.links.contains_key(index);
-                vec![short, unnamed(*index), (new && self.links.len() == 3, 13), (new && *outcome != 0, 14)]
+                vec![short, unnamed(*index), (new && self.links.len() == LINKS, refusal::LINKS_FULL), (new && *outcome != 0, refusal::JOIN_FAILED)]
             }
             Call::DelLink { index, .. } => vec![unnamed(*index)],
             Call::Addr { index, address } => {
-                vec![short, unnamed(*index), odd(address), (self.third(*index, address), 13)]
+                vec![short, unnamed(*index), odd(address), (self.third(*index, address), refusal::LINKS_FULL)]
             }
             Call::DelAddr { index, address } => vec![unnamed(*index), odd(address)],
             Call::Subscribe { kind } => {
-                let texts: [(&[u8], usize); 1] = [(kind, 80)];
-                vec![short, over(&texts), bad(&texts), (self.subscriptions.len() == 4, 5)]
+                let texts: [(&[u8], usize); 1] = [(kind, TYPE_SIZE)];
+                vec![short, over(&texts), bad(&texts), (self.subscriptions.len() == SUBSCRIPTIONS, refusal::TABLE_FULL)]
             }
             Call::Advertise { name, kind, location } => {
-                let texts: [(&[u8], usize); 3] = [(name, 128), (kind, 80), (location, 120)];
-                let ninth = self.names.len() == 8 && !self.names.contains_key(name);
-                vec![short, over(&texts), bad(&texts), (ninth, 5)]
+                let texts: [(&[u8], usize); 3] = [(name, NAME_SIZE), (kind, TYPE_SIZE), (location, LOCATION_SIZE)];
+                let ninth = self.names.len() == NAMES && !self.names.contains_key(name);
+                vec![short, over(&texts), bad(&texts), (ninth, refusal::TABLE_FULL)]
             }
             Call::Deadvertise { .. } | Call::Refresh => vec![short],
             Call::Data { now, datagram, .. } => vec![late(*now), (true, peer_refusal(datagram))],
@@ -109,7 +119,7 @@ impl Document {
     /// 13: 'a third address that would be stored'.
     fn third(&self, index: u32, address: &[u8]) -> bool {
         match (ipv4(address), self.links.get(&index)) {
-            (Some(address), Some(link)) => link.addresses.len() == 2 && !link.addresses.contains(&address),
+            (Some(address), Some(link)) => link.addresses.len() == ADDRESSES && !link.addresses.contains(&address),
             _ => false,
         }
     }
@@ -308,10 +318,10 @@ fn record(to: Peer, from: Ipv4Addr, build: impl Fn(&mut [u8]) -> usize) -> Recor
 /// 'A peer's datagram, after 1: 7 empty; 8 any other `parse` error; 9 MX 0; 10 search target over 80 bytes.'
 fn peer_refusal(datagram: &[u8]) -> u32 {
     match message::parse(datagram) {
-        Err(message::Error::UnexpectedEof) => 7,
-        Err(_) => 8,
-        Ok(Message::Search { maximum_wait_sec: 0, .. }) => 9,
-        Ok(Message::Search { search_target, .. }) if search_target.len() > 80 => 10,
+        Err(message::Error::UnexpectedEof) => refusal::DATAGRAM_EMPTY,
+        Err(_) => refusal::DATAGRAM_INVALID,
+        Ok(Message::Search { maximum_wait_sec: 0, .. }) => refusal::WAIT_ZERO,
+        Ok(Message::Search { search_target, .. }) if search_target.len() > TYPE_SIZE => refusal::TARGET_OVER_SIZE,
         Ok(_) => 0,
     }
 }

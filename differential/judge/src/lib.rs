@@ -6,10 +6,11 @@ mod cotton;
 mod document;
 mod front;
 pub mod messages;
+pub mod refusal;
 pub mod text;
 
 pub use cotton::Milliseconds;
-pub use document::{MAX_TIME, OUTBOX};
+pub use document::{ADDRESSES, LINKS, LOCATION_SIZE, MAX_TIME, NAMES, NAME_SIZE, OUTBOX, RECORD, SUBSCRIPTIONS, TYPE_SIZE};
 pub use front::{bare, read, Front, Line, Program};
 
 use call::{Answer, Call};

@@ -18,11 +18,15 @@ pub struct Engine {
 }
 
 impl Engine {
-    /// An engine whose first refresh is due at `time`. The seed spreads delays: take a random one.
-    pub fn new(random_seed: u32, time: u64) -> Result<Engine, Refusal> {
+    /// An engine whose first refresh is due at `time`. The seed spreads delays: take a random one. Where the time is refused there is an
+    /// engine all the same, which begins at time 0: the error holds it.
+    pub fn new(random_seed: u32, time: u64) -> Result<Engine, RefusedStart> {
         let mut engine = Engine { held: HeldEngine::BLANK, waiting: 0, poll: 0 };
         let answer = abi::new(&mut engine.held, random_seed, time);
-        engine.noted(answer).map(|_| engine)
+        match engine.noted(answer) {
+            Ok(_) => Ok(engine),
+            Err(refusal) => Err(RefusedStart { engine, refusal }),
+        }
     }
 
     /// The replies that wait.
@@ -121,5 +125,26 @@ impl Engine {
 impl fmt::Debug for Engine {
     fn fmt(&self, f: &mut fmt::Formatter<'_>) -> fmt::Result {
         f.debug_struct("Engine").field("waiting", &self.waiting).field("poll", &self.poll).finish_non_exhaustive()
+    }
+}
+
+/// A refused [`Engine::new`]: why, and the engine of that seed, begun at time 0, with which the host may go on. `?` makes a [`Refusal`] of it.
+#[derive(Clone, Debug)]
+pub struct RefusedStart {
+    /// Why the time was refused.
+    pub refusal: Refusal,
+    /// The engine, begun at time 0.
+    pub engine: Engine,
+}
+
+impl From<RefusedStart> for Refusal {
+    fn from(start: RefusedStart) -> Refusal {
+        start.refusal
+    }
+}
+
+impl fmt::Display for RefusedStart {
+    fn fmt(&self, f: &mut fmt::Formatter<'_>) -> fmt::Result {
+        self.refusal.fmt(f)
     }
 }

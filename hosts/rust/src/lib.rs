@@ -57,11 +57,11 @@ mod refusal;
 mod sizes;
 
 pub use answer::Answer;
-pub use engine::Engine;
+pub use engine::{Engine, RefusedStart};
 pub use message::{build_byebye, build_notify, build_response, build_search, parse, Message, MESSAGE_MAX};
 pub use record::{Record, Records};
 pub use refusal::Refusal;
-pub use sizes::{ADDRESSES, LINKS, LOCATION_SIZE, NAMES, NAME_SIZE, OUTBOX_SIZE, RECORDS, RECORD_SIZE, SUBSCRIPTIONS, TYPE_SIZE};
+pub use sizes::{ADDRESSES, LINKS, LOCATION_SIZE, NAMES, NAME_SIZE, OUTBOX_SIZE, RECORDS, RECORD_SIZE, SUBSCRIPTIONS, TIME_MAX, TYPE_SIZE};
 
 /// The flags of a link, as the kernel has them.
 pub mod flags {

@@ -1,5 +1,8 @@
 //! How much an engine holds, and the sizes of the arrays that it is made of, as the library has them. The tests compare them with the library and with the header.
 
+/// The latest time, in milliseconds: a call with a later one is refused.
+pub const TIME_MAX: u64 = (1 << 63) - 1;
+
 /// The names that are held.
 pub const NAMES: usize = 8;
 

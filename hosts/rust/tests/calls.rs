@@ -1,5 +1,7 @@
 //! The calls as a host makes them: each answers what document 01 says, and each refusal has its number.
-use kohlsilk::{flags, Answer, Engine, Message, Refusal, GROUP, LOCATION_SIZE, NAMES, NAME_SIZE, OUTBOX_SIZE, SUBSCRIPTIONS, TYPE_SIZE};
+use kohlsilk::{
+    flags, Answer, Engine, Message, Refusal, GROUP, LOCATION_SIZE, NAMES, NAME_SIZE, OUTBOX_SIZE, SUBSCRIPTIONS, TIME_MAX, TYPE_SIZE,
+};
 use std::net::{Ipv4Addr, SocketAddrV4};
 
 const LINK: u32 = flags::UP | flags::RUNNING | flags::MULTICAST;
@@ -18,8 +20,8 @@ fn serving() -> (Engine, Vec<u8>) {
     (engine, outbox)
 }
 
-fn number(answer: Result<Answer, Refusal>) -> u32 {
-    answer.map_or_else(Refusal::number, |_| 0)
+fn refusal(answer: Result<Answer, Refusal>) -> Option<Refusal> {
+    answer.err()
 }
 
 fn search(target: &str, mx: &str) -> Vec<u8> {
@@ -92,56 +94,70 @@ fn the_refresh_begins_anew() {
 
 #[test]
 fn the_host_is_refused() {
-    let late = 1 << 63;
-    assert_eq!(Engine::new(0, late).unwrap_err(), Refusal::TIME_LATE);
+    let late = TIME_MAX + 1;
+    assert_eq!(Refusal::from(Engine::new(0, late).unwrap_err()), Refusal::TIME_LATE);
     let (mut engine, mut outbox) = serving();
-    assert_eq!(number(engine.handle_timeout(late, &mut outbox)), 1);
-    assert_eq!(number(engine.handle_timeout(late - 1, &mut outbox)), 0);
-    assert_eq!(number(engine.reset_refresh_timer(late)), 1);
+    assert_eq!(refusal(engine.handle_timeout(late, &mut outbox)), Some(Refusal::TIME_LATE));
+    assert_eq!(refusal(engine.handle_timeout(late - 1, &mut outbox)), None);
+    assert_eq!(refusal(engine.reset_refresh_timer(late)), Some(Refusal::TIME_LATE));
     let (mut engine, mut outbox) = serving();
-    assert_eq!(number(engine.refresh(&mut outbox[1..])), 2);
-    assert_eq!(number(engine.refresh(&mut [])), 2);
-    assert_eq!(number(engine.advertise("n".repeat(NAME_SIZE), "t".repeat(TYPE_SIZE), "l".repeat(LOCATION_SIZE), &mut outbox)), 0);
-    assert_eq!(number(engine.advertise("n".repeat(NAME_SIZE + 1), "t", "l", &mut outbox)), 3);
-    assert_eq!(number(engine.subscribe("t".repeat(TYPE_SIZE + 1), &mut outbox)), 3);
-    assert_eq!(number(engine.subscribe(b"\xff", &mut outbox)), 4);
-    assert_eq!(number(engine.advertise("u", "t", "l ", &mut outbox)), 4);
+    assert_eq!(refusal(engine.refresh(&mut outbox[1..])), Some(Refusal::OUTBOX_SHORT));
+    assert_eq!(refusal(engine.refresh(&mut [])), Some(Refusal::OUTBOX_SHORT));
+    assert_eq!(refusal(engine.advertise("n".repeat(NAME_SIZE), "t".repeat(TYPE_SIZE), "l".repeat(LOCATION_SIZE), &mut outbox)), None);
+    assert_eq!(refusal(engine.advertise("n".repeat(NAME_SIZE + 1), "t", "l", &mut outbox)), Some(Refusal::TEXT_OVER_SIZE));
+    assert_eq!(refusal(engine.subscribe("t".repeat(TYPE_SIZE + 1), &mut outbox)), Some(Refusal::TEXT_OVER_SIZE));
+    assert_eq!(refusal(engine.subscribe(b"\xff", &mut outbox)), Some(Refusal::TEXT_NOT_GOOD));
+    assert_eq!(refusal(engine.advertise("u", "t", "l ", &mut outbox)), Some(Refusal::TEXT_NOT_GOOD));
     for k in 1..=NAMES {
-        assert_eq!(number(engine.advertise(format!("{k}"), "t", "l", &mut outbox)), if k < NAMES { 0 } else { 5 });
+        assert_eq!(
+            refusal(engine.advertise(format!("{k}"), "t", "l", &mut outbox)),
+            if k < NAMES { None } else { Some(Refusal::TABLE_FULL) }
+        );
     }
-    assert_eq!(number(engine.advertise("1", "other", "l", &mut outbox)), 0);
+    assert_eq!(refusal(engine.advertise("1", "other", "l", &mut outbox)), None);
     for k in 0..=SUBSCRIPTIONS {
-        assert_eq!(number(engine.subscribe("t", &mut outbox)), if k < SUBSCRIPTIONS { 0 } else { 5 });
+        assert_eq!(refusal(engine.subscribe("t", &mut outbox)), if k < SUBSCRIPTIONS { None } else { Some(Refusal::TABLE_FULL) });
     }
+}
+
+#[test]
+fn a_list_goes_on_after_a_refused_start() {
+    let mut outbox = outbox();
+    let mut engine = Engine::new(3, TIME_MAX + 1).unwrap_err().engine;
+    assert_eq!((engine.waiting(), engine.poll()), (0, 0));
+    let (refused, begun) =
+        (engine.handle_timeout(0, &mut outbox).unwrap(), Engine::new(3, 0).unwrap().handle_timeout(0, &mut outbox).unwrap());
+    assert_eq!(refused, begun);
+    assert_ne!(refused.poll, Engine::new(4, 0).unwrap().handle_timeout(0, &mut outbox).unwrap().poll);
 }
 
 #[test]
 fn peers_are_refused() {
     let (mut engine, _) = serving();
-    let mut data = |datagram: &[u8]| number(engine.on_data(0, SEARCHER, HERE, datagram));
-    assert_eq!(data(b""), 7);
-    assert_eq!(data(b"junk"), 8);
-    assert_eq!(data(&search("t", "256")), 8);
-    assert_eq!(data(&search("t", "255")), 0);
-    assert_eq!(data(&search("t", "0")), 9);
-    assert_eq!(data(&search(&"t".repeat(TYPE_SIZE + 1), "1")), 10);
-    assert_eq!(number(engine.on_data(1 << 63, SEARCHER, HERE, b"")), 1);
+    let mut data = |datagram: &[u8]| refusal(engine.on_data(0, SEARCHER, HERE, datagram));
+    assert_eq!(data(b""), Some(Refusal::DATAGRAM_EMPTY));
+    assert_eq!(data(b"junk"), Some(Refusal::DATAGRAM_INVALID));
+    assert_eq!(data(&search("t", "256")), Some(Refusal::DATAGRAM_INVALID));
+    assert_eq!(data(&search("t", "255")), None);
+    assert_eq!(data(&search("t", "0")), Some(Refusal::WAIT_ZERO));
+    assert_eq!(data(&search(&"t".repeat(TYPE_SIZE + 1), "1")), Some(Refusal::TARGET_OVER_SIZE));
+    assert_eq!(refusal(engine.on_data(TIME_MAX + 1, SEARCHER, HERE, b"")), Some(Refusal::TIME_LATE));
 }
 
 #[test]
 fn news_is_refused() {
     let (mut engine, mut outbox) = serving();
-    assert_eq!(number(engine.new_link(0, LINK, 0, &mut outbox)), 11);
-    assert_eq!(number(engine.deleted_link(0, 0)), 11);
-    assert_eq!(number(engine.new_address(1, &[1; 5], &mut outbox)), 12);
-    assert_eq!(number(engine.deleted_address(1, &[])), 12);
-    assert_eq!(number(engine.new_address(1, &[1; 16], &mut outbox)), 0);
-    assert_eq!(number(engine.new_address(1, &[1; 4], &mut outbox)), 0);
-    assert_eq!(number(engine.new_address(1, &[2; 4], &mut outbox)), 13);
-    assert_eq!(number(engine.new_link(2, LINK, 19, &mut outbox)), 14);
-    assert_eq!(number(engine.new_link(2, LINK, 0, &mut outbox)), 0);
-    assert_eq!(number(engine.new_link(3, LINK, 0, &mut outbox)), 0);
-    assert_eq!(number(engine.new_link(4, LINK, 19, &mut outbox)), 13);
+    assert_eq!(refusal(engine.new_link(0, LINK, 0, &mut outbox)), Some(Refusal::INDEX_ZERO));
+    assert_eq!(refusal(engine.deleted_link(0, 0)), Some(Refusal::INDEX_ZERO));
+    assert_eq!(refusal(engine.new_address(1, &[1; 5], &mut outbox)), Some(Refusal::ADDRESS_LENGTH));
+    assert_eq!(refusal(engine.deleted_address(1, &[])), Some(Refusal::ADDRESS_LENGTH));
+    assert_eq!(refusal(engine.new_address(1, &[1; 16], &mut outbox)), None);
+    assert_eq!(refusal(engine.new_address(1, &[1; 4], &mut outbox)), None);
+    assert_eq!(refusal(engine.new_address(1, &[2; 4], &mut outbox)), Some(Refusal::LINKS_FULL));
+    assert_eq!(refusal(engine.new_link(2, LINK, 19, &mut outbox)), Some(Refusal::JOIN_FAILED));
+    assert_eq!(refusal(engine.new_link(2, LINK, 0, &mut outbox)), None);
+    assert_eq!(refusal(engine.new_link(3, LINK, 0, &mut outbox)), None);
+    assert_eq!(refusal(engine.new_link(4, LINK, 19, &mut outbox)), Some(Refusal::LINKS_FULL));
 }
 
 /// A refused call leaves the outbox, and tells waiting and poll of the engine as it was.
@@ -152,8 +168,8 @@ fn a_refused_call_changes_nothing() {
     engine.handle_timeout(0, &mut bytes).unwrap();
     engine.on_data(0, SEARCHER, HERE, &search("t", "1")).unwrap();
     let before = (engine.waiting(), engine.poll(), bytes.clone());
-    assert_eq!(number(engine.advertise("u1", "t", "l\n", &mut bytes)), 4);
-    assert_eq!(number(engine.handle_timeout(u64::MAX, &mut bytes)), 1);
+    assert_eq!(refusal(engine.advertise("u1", "t", "l\n", &mut bytes)), Some(Refusal::TEXT_NOT_GOOD));
+    assert_eq!(refusal(engine.handle_timeout(u64::MAX, &mut bytes)), Some(Refusal::TIME_LATE));
     assert_eq!((engine.waiting(), engine.poll(), bytes), before);
     assert_eq!(before.0, 1);
 }

@@ -1,5 +1,5 @@
 -- Case by case of the reply.
-use mathlib.Core.Path.{_≡_, sym, ap}
+use mathlib.Core.Path.{_≡_, sym, _∙_, ap}
 use lib.ListN.{length, take}
 use Rattle.engine.specs.Records.{replyRecords}
 use Rattle.engine.specs.Arrays.{entryAt}
@@ -11,9 +11,9 @@ use Rattle.engine.proofs.due.reply.Statement.{statement}
 use Rattle.engine.proofs.due.reply.Tie as tie
 
 -- the records of a reply, by what the match has told of it
-replied : (s : tie.Start) {needed : ResponseNeeded} → s .args .needed ≡ needed
+replied : (s : tie.Start) {needed : ResponseNeeded} → s .args .t5 .«response_needed» ≡ needed
     → replyRecords (take (s .args .n) (s .args .up)) (entryAt (s .args .i) (s .args .numbers .now) (s .args .texts .now)) needed
-    ≡ replyRecords (take (s .args .n) (s .args .up)) (entryAt (s .args .i) (s .args .numbers .now) (s .args .texts .now)) (s .args .needed)
+    ≡ replyRecords (take (s .args .n) (s .args .up)) (entryAt (s .args .i) (s .args .numbers .now) (s .args .texts .now)) (s .args .t5 .«response_needed»)
 replied s e =
     ap (replyRecords (take (s .args .n) (s .args .up)) (entryAt (s .args .i) (s .args .numbers .now) (s .args .texts .now))) (sym e)
 
@@ -26,20 +26,23 @@ enum-told-2 c = search needs
 announce-name-requires : tie.Need-announce-name-requires
 announce-name-requires c κs =
     let s = c .before .before .before .before .before .before in
-    (s .pre .0, s .pre .1, omega (arith, s .pre .2, ap length (replied s (c .before .enum-told2 .given .1))))
+    (s .pre .0, s .pre .1, omega (arith, s .pre .3, ap length (replied s (c .before .enum-told2 .given .1))))
 
 enum-known-needed : tie.Need-enum-known-needed
 enum-known-needed c = search needs
 
+front-requires : tie.Need-front-requires
+front-requires c κs = search needs
+
 respond-requires : tie.Need-respond-requires
 respond-requires c κs =
-    let s = c .before .before .before .before .before .before .before in
-    (s .pre .0, s .pre .1, omega (arith, s .pre .2, ap length (replied s (c .before .before .needed .given .1))))
+    let s = c .before .before .before .before .before .before .before .before .before .before .before in
+    (s .pre .0, s .pre .1, c .before .front .ensures ∙ s .pre .2, omega (arith, s .pre .3, ap length (replied s (c .before .before .before .before .before .before .needed .given .1))))
 
 returns : tie.Need-returns
 returns c =
     let s = c .before .before .before .before .before in
-    of (replied s (c .enum-told .given .1)) (none (omega (arith, s .pre .2)))
+    of (replied s (c .enum-told .given .1)) (none (omega (arith, s .pre .3)))
 
 same-length : tie.Need-same-length
 same-length c = search needs
@@ -51,7 +54,7 @@ same-length-2 : tie.Need-same-length-2
 same-length-2 c = search needs
 
 returns-3 : tie.Need-returns-3
-returns-3 c = of (replied (c .before .before .before .before .before .before .before .before .before .before) (c .before .before .before .before .before .needed .given .1)) (c .before .before .respond .ensures)
+returns-3 c = of (replied (c .before .before .before .before .before .before .before .before .before .before .before .before .before .before) (c .before .before .before .before .before .before .before .before .before .needed .given .1)) (c .before .before .respond .ensures)
 
 pub reply-spec : {M : Type 1} → statement M
 reply-spec =
@@ -61,6 +64,7 @@ reply-spec =
     enum-told-2
     announce-name-requires
     enum-known-needed
+    front-requires
     respond-requires
     returns
     same-length

@@ -5,9 +5,6 @@ use borrow.Author.Needs.{needs}
 use Rattle.engine.proofs.due.respond.Statement.{statement}
 use Rattle.engine.proofs.due.respond.Tie as tie
 
-answer-at-requires : tie.Need-answer-at-requires
-answer-at-requires c κs = search needs
-
 name-at-requires : tie.Need-name-at-requires
 name-at-requires c κs = search needs
 
@@ -22,16 +19,10 @@ same-length c = search needs
 
 returns : tie.Need-returns
 returns c =
-    let a = c .before .before .before .before .before .before .before .before .before .before .args in
-    of (response-texts (a .source) (a .to) (c .before .before .before .before .before .answer-at .ensures) (c .before .before .before .before .name-at .ensures) (c .before .before .before .location-at .ensures .0)) (c .before .before .send-response .ensures)
+    let s = c .before .before .before .before .before .before .before .before .before .before in
+    of (response-texts (s .args .source) (s .args .to) (s .pre .2) (c .before .before .before .before .name-at .ensures) (c .before .before .before .location-at .ensures .0)) (c .before .before .send-response .ensures)
 
 pub respond-spec : {M : Type 1} → statement M
 respond-spec =
     tie.close
-    (tie.spec
-    answer-at-requires
-    name-at-requires
-    location-at-requires
-    send-response-requires
-    same-length
-    returns)
+    (tie.spec name-at-requires location-at-requires send-response-requires same-length returns)

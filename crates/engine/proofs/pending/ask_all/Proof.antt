@@ -25,8 +25,8 @@ count-of-requires c κs = search needs
 wanted-of-requires : tie.Need-wanted-of-requires Inv-loop μ-loop
 wanted-of-requires c κs = search needs
 
-is-all-requires : tie.Need-is-all-requires Inv-loop μ-loop
-is-all-requires c κs = search needs
+wants-all-requires : tie.Need-wants-all-requires Inv-loop μ-loop
+wants-all-requires c κs = search needs
 
 opened-by-requires : tie.Need-opened-by-requires Inv-loop μ-loop
 opened-by-requires c κs = search needs
@@ -37,7 +37,7 @@ loop-holds c = (omega arith, c .before .before .before .before .before .before .
 ask-one-requires : tie.Need-ask-one-requires Inv-loop μ-loop
 ask-one-requires c κs =
     let made = c .before .before .before .before .opened-by .ensures in
-    (omega arith, c .before .before .before .loop .inv .1, c .before .before .before .before .before .before .wanted-of .ensures, record { every = c .before .before .before .before .before .is-all .ensures; reply = made .0; answer = made .1 })
+    (omega arith, c .before .before .before .loop .inv .1, c .before .before .before .before .before .before .wanted-of .ensures, record { every = c .before .before .before .before .before .wants-all .ensures _ (c .before .before .before .before .before .before .wanted-of .ensures); reply = made .0; answer = made .1 })
 
 add-matched : tie.Need-add-matched Inv-loop μ-loop
 add-matched c =
@@ -86,7 +86,7 @@ ask-all-spec =
     μ-loop
     count-of-requires
     wanted-of-requires
-    is-all-requires
+    wants-all-requires
     opened-by-requires
     loop-holds
     ask-one-requires

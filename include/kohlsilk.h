@@ -102,9 +102,9 @@ struct kohlsilk_answer kohlsilk_lent_new_address(uint64_t *head, uint64_t *links
 struct kohlsilk_answer kohlsilk_lent_deleted_address(uint64_t *head, uint64_t *links, const uint64_t *numbers, uint32_t index,
                                                      const uint8_t *address, size_t address_len);
 struct kohlsilk_answer kohlsilk_lent_subscribe(uint64_t *head, const uint64_t *links, uint8_t *searches, const uint64_t *numbers,
-                                               const uint8_t *kind, size_t kind_len, uint8_t *outbox, size_t outbox_len);
+                                               const uint8_t *service_type, size_t service_type_len, uint8_t *outbox, size_t outbox_len);
 struct kohlsilk_answer kohlsilk_lent_advertise(uint64_t *head, const uint64_t *links, uint64_t *numbers, uint8_t *texts,
-                                               const uint8_t *name, size_t name_len, const uint8_t *kind, size_t kind_len,
+                                               const uint8_t *name, size_t name_len, const uint8_t *service_type, size_t service_type_len,
                                                const uint8_t *location, size_t location_len, uint8_t *outbox, size_t outbox_len);
 struct kohlsilk_answer kohlsilk_lent_deadvertise(uint64_t *head, const uint64_t *links, uint64_t *numbers, uint8_t *texts,
                                                  const uint8_t *name, size_t name_len, uint8_t *outbox, size_t outbox_len);
@@ -154,19 +154,19 @@ static inline struct kohlsilk_answer kohlsilk_deleted_address(struct kohlsilk_en
 }
 
 /* Searches for a type, now and at each refresh. Subscriptions count from 0 in the order made. */
-static inline struct kohlsilk_answer kohlsilk_subscribe(struct kohlsilk_engine *engine, const uint8_t *kind, size_t kind_len,
+static inline struct kohlsilk_answer kohlsilk_subscribe(struct kohlsilk_engine *engine, const uint8_t *service_type, size_t service_type_len,
                                                         uint8_t *outbox, size_t outbox_len)
 {
-    return kohlsilk_lent_subscribe(engine->head, engine->links, engine->searches, engine->numbers, kind, kind_len, outbox, outbox_len);
+    return kohlsilk_lent_subscribe(engine->head, engine->links, engine->searches, engine->numbers, service_type, service_type_len, outbox, outbox_len);
 }
 
 /* Announces a service under a name (its USN), now and at each refresh; a name that is held is replaced. The host part of the
  * location becomes the address that a record is sent from. */
 static inline struct kohlsilk_answer kohlsilk_advertise(struct kohlsilk_engine *engine, const uint8_t *name, size_t name_len,
-                                                        const uint8_t *kind, size_t kind_len, const uint8_t *location,
+                                                        const uint8_t *service_type, size_t service_type_len, const uint8_t *location,
                                                         size_t location_len, uint8_t *outbox, size_t outbox_len)
 {
-    return kohlsilk_lent_advertise(engine->head, engine->links, engine->numbers, engine->texts, name, name_len, kind, kind_len, location,
+    return kohlsilk_lent_advertise(engine->head, engine->links, engine->numbers, engine->texts, name, name_len, service_type, service_type_len, location,
                                    location_len, outbox, outbox_len);
 }
 

@@ -19,7 +19,7 @@ Status: 0, or 1 where the system failed or a service or search of the command li
 #[derive(Debug, PartialEq, Eq)]
 pub struct Advertisement {
     pub name: Vec<u8>,
-    pub kind: Vec<u8>,
+    pub service_type: Vec<u8>,
     pub location: Vec<u8>,
 }
 
@@ -42,7 +42,7 @@ impl Arguments {
             let option = word.to_string_lossy().into_owned();
             let mut next = || words.next().map(OsString::into_vec).ok_or(format!("{option} wants more words"));
             match option.as_str() {
-                "--advertise" => read.advertisements.push(Advertisement { name: next()?, kind: next()?, location: next()? }),
+                "--advertise" => read.advertisements.push(Advertisement { name: next()?, service_type: next()?, location: next()? }),
                 "--subscribe" => read.subscriptions.push(next()?),
                 "--seconds" => read.seconds = Some(number(&option, &next()?)?),
                 "--seed" => read.seed = Some(number(&option, &next()?)?),
@@ -75,7 +75,7 @@ mod tests {
     fn all_options() {
         let read = read("--advertise u t http://h/ --subscribe a --subscribe b --seed 7 --ttl 2 --seconds 9 --log-records").unwrap();
         let [u, t, l] = ["u", "t", "http://h/"].map(|text| text.as_bytes().to_vec());
-        assert_eq!(read.advertisements, [Advertisement { name: u, kind: t, location: l }]);
+        assert_eq!(read.advertisements, [Advertisement { name: u, service_type: t, location: l }]);
         assert_eq!(read.subscriptions, [b"a", b"b"]);
         assert_eq!((read.seed, read.ttl, read.seconds, read.log_records), (Some(7), 2, Some(9), true));
     }

@@ -69,15 +69,15 @@ impl Host {
     /// Takes up what the command line asks for, and says whether all of it was accepted.
     pub fn begin(&mut self, arguments: &Arguments) -> bool {
         let mut accepted = true;
-        for kind in &arguments.subscriptions {
-            let answer = self.engine.subscribe(kind, &mut self.outbox);
-            match self.answered(answer, None, || format!("subscribe {}", Text(kind))) {
-                Some(_) => self.subscriptions.push(kind.clone()),
+        for service_type in &arguments.subscriptions {
+            let answer = self.engine.subscribe(service_type, &mut self.outbox);
+            match self.answered(answer, None, || format!("subscribe {}", Text(service_type))) {
+                Some(_) => self.subscriptions.push(service_type.clone()),
                 None => accepted = false,
             }
         }
         for service in &arguments.advertisements {
-            let answer = self.engine.advertise(&service.name, &service.kind, &service.location, &mut self.outbox);
+            let answer = self.engine.advertise(&service.name, &service.service_type, &service.location, &mut self.outbox);
             accepted &= self.answered(answer, None, || format!("advertise {}", Text(&service.name))).is_some();
         }
         accepted
@@ -106,8 +106,11 @@ impl Host {
         let answer = self.engine.on_data(self.now(), sender, receiver, datagram);
         let Some(answer) = self.answered(answer, None, || format!("datagram from {sender}")) else { return };
         if let (1.., Ok(message)) = (answer.told, kohlsilk::parse(datagram)) {
-            let told: Vec<String> =
-                answer.subscriptions().filter_map(|k| self.subscriptions.get(k)).map(|kind| Text(kind).to_string()).collect();
+            let told: Vec<String> = answer
+                .subscriptions()
+                .filter_map(|k| self.subscriptions.get(k))
+                .map(|service_type| Text(service_type).to_string())
+                .collect();
             let line = notification(&message).unwrap_or_default();
             say(format_args!("{line} (for {})", told.join(", ")));
         }

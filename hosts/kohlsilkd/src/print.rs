@@ -32,9 +32,9 @@ impl fmt::Display for Text<'_> {
 pub fn notification(message: &Message) -> Option<String> {
     let text = |field: &str| Text(field.as_bytes()).to_string();
     match *message {
-        Message::NotifyAlive { notification_type: kind, unique_service_name, location }
-        | Message::Response { search_target: kind, unique_service_name, location } => {
-            Some(format!("there {} {} {}", text(kind), text(unique_service_name), text(location)))
+        Message::NotifyAlive { notification_type: service_type, unique_service_name, location }
+        | Message::Response { search_target: service_type, unique_service_name, location } => {
+            Some(format!("there {} {} {}", text(service_type), text(unique_service_name), text(location)))
         }
         Message::NotifyByeBye { notification_type, unique_service_name } => {
             Some(format!("gone {} {}", text(notification_type), text(unique_service_name)))

@@ -15,7 +15,7 @@ type Texts = [u8; TEXTS_WIDTH * NAMES];
 /// The engine as the host holds it: the arrays that each call is lent. They are numbers alone, so that any bytes are a value of it.
 #[repr(C)]
 #[derive(Clone)]
-pub struct HeldEngine {
+pub struct EngineArrays {
     head: Head,
     links: Links,
     searches: Searches,
@@ -23,9 +23,9 @@ pub struct HeldEngine {
     texts: Texts,
 }
 
-impl HeldEngine {
+impl EngineArrays {
     /// Zeros, to be lent to `new`.
-    pub const BLANK: HeldEngine = HeldEngine {
+    pub const BLANK: EngineArrays = EngineArrays {
         head: [0; HEAD_PLACES],
         links: [0; LINK_WIDTH * LINKS],
         searches: [0; SEARCH_WIDTH * SUBSCRIPTIONS],
@@ -35,7 +35,7 @@ impl HeldEngine {
 }
 
 #[repr(C)]
-pub struct HeldAnswer {
+pub struct RawAnswer {
     pub refusal: u32,
     pub records: usize,
     pub matched: usize,
@@ -73,7 +73,7 @@ type Lent = *mut u8;
 
 // The order of parameters is that of the header: a reference is a pointer, a slice a pointer and a length.
 extern "C" {
-    fn kohlsilk_lent_new(h: &mut Head, n: &Numbers, random_seed: u32, time: u64) -> HeldAnswer;
+    fn kohlsilk_lent_new(h: &mut Head, n: &Numbers, random_seed: u32, time: u64) -> RawAnswer;
     fn kohlsilk_lent_new_link(
         h: &mut Head,
         l: &mut Links,
@@ -85,8 +85,8 @@ extern "C" {
         outcome: u32,
         outbox: Lent,
         room: usize,
-    ) -> HeldAnswer;
-    fn kohlsilk_lent_deleted_link(h: &mut Head, l: &mut Links, n: &Numbers, index: u32, outcome: u32) -> HeldAnswer;
+    ) -> RawAnswer;
+    fn kohlsilk_lent_deleted_link(h: &mut Head, l: &mut Links, n: &Numbers, index: u32, outcome: u32) -> RawAnswer;
     fn kohlsilk_lent_new_address(
         h: &mut Head,
         l: &mut Links,
@@ -98,18 +98,18 @@ extern "C" {
         len: usize,
         outbox: Lent,
         room: usize,
-    ) -> HeldAnswer;
-    fn kohlsilk_lent_deleted_address(h: &mut Head, l: &mut Links, n: &Numbers, index: u32, address: Bytes, len: usize) -> HeldAnswer;
+    ) -> RawAnswer;
+    fn kohlsilk_lent_deleted_address(h: &mut Head, l: &mut Links, n: &Numbers, index: u32, address: Bytes, len: usize) -> RawAnswer;
     fn kohlsilk_lent_subscribe(
         h: &mut Head,
         l: &Links,
         s: &mut Searches,
         n: &Numbers,
-        kind: Bytes,
+        service_type: Bytes,
         len: usize,
         outbox: Lent,
         room: usize,
-    ) -> HeldAnswer;
+    ) -> RawAnswer;
     fn kohlsilk_lent_advertise(
         h: &mut Head,
         l: &Links,
@@ -117,13 +117,13 @@ extern "C" {
         t: &mut Texts,
         name: Bytes,
         name_len: usize,
-        kind: Bytes,
+        service_type: Bytes,
         kind_len: usize,
         location: Bytes,
         location_len: usize,
         outbox: Lent,
         room: usize,
-    ) -> HeldAnswer;
+    ) -> RawAnswer;
     fn kohlsilk_lent_deadvertise(
         h: &mut Head,
         l: &Links,
@@ -133,8 +133,8 @@ extern "C" {
         len: usize,
         outbox: Lent,
         room: usize,
-    ) -> HeldAnswer;
-    fn kohlsilk_lent_refresh(h: &Head, l: &Links, s: &Searches, n: &Numbers, t: &Texts, outbox: Lent, room: usize) -> HeldAnswer;
+    ) -> RawAnswer;
+    fn kohlsilk_lent_refresh(h: &Head, l: &Links, s: &Searches, n: &Numbers, t: &Texts, outbox: Lent, room: usize) -> RawAnswer;
     fn kohlsilk_lent_on_data(
         h: &Head,
         s: &Searches,
@@ -146,7 +146,7 @@ extern "C" {
         receiver: u32,
         datagram: Bytes,
         len: usize,
-    ) -> HeldAnswer;
+    ) -> RawAnswer;
     fn kohlsilk_lent_handle_timeout(
         h: &mut Head,
         l: &Links,
@@ -156,8 +156,8 @@ extern "C" {
         time: u64,
         outbox: Lent,
         room: usize,
-    ) -> HeldAnswer;
-    fn kohlsilk_lent_reset_refresh_timer(h: &mut Head, n: &Numbers, time: u64) -> HeldAnswer;
+    ) -> RawAnswer;
+    fn kohlsilk_lent_reset_refresh_timer(h: &mut Head, n: &Numbers, time: u64) -> RawAnswer;
     fn kohlsilk_parse(datagram: Bytes, n: usize) -> Parsed;
     fn kohlsilk_build_search(b: Lent, room: usize, st: Bytes, k: usize) -> Written;
     fn kohlsilk_build_response(b: Lent, room: usize, st: Bytes, k: usize, usn: Bytes, n: usize, location: Bytes, l: usize) -> Written;
@@ -168,70 +168,71 @@ extern "C" {
 // SAFETY, of each call on an engine: its arrays are lent whole, apart from each other and, where the call changes them, apart from the slices, whose
 // lengths are their own.
 
-pub fn new(e: &mut HeldEngine, random_seed: u32, time: u64) -> HeldAnswer {
+pub fn new(e: &mut EngineArrays, random_seed: u32, time: u64) -> RawAnswer {
     // SAFETY: as above.
     unsafe { kohlsilk_lent_new(&mut e.head, &e.numbers, random_seed, time) }
 }
 
-pub fn new_link(e: &mut HeldEngine, index: u32, flags: u32, outcome: u32, outbox: &mut [u8]) -> HeldAnswer {
+pub fn new_link(e: &mut EngineArrays, index: u32, flags: u32, outcome: u32, outbox: &mut [u8]) -> RawAnswer {
     let (h, l, room) = (&mut e.head, &mut e.links, outbox.len());
     // SAFETY: as above.
     unsafe { kohlsilk_lent_new_link(h, l, &e.searches, &e.numbers, &e.texts, index, flags, outcome, outbox.as_mut_ptr(), room) }
 }
 
-pub fn deleted_link(e: &mut HeldEngine, index: u32, outcome: u32) -> HeldAnswer {
+pub fn deleted_link(e: &mut EngineArrays, index: u32, outcome: u32) -> RawAnswer {
     // SAFETY: as above.
     unsafe { kohlsilk_lent_deleted_link(&mut e.head, &mut e.links, &e.numbers, index, outcome) }
 }
 
-pub fn new_address(e: &mut HeldEngine, index: u32, address: &[u8], outbox: &mut [u8]) -> HeldAnswer {
+pub fn new_address(e: &mut EngineArrays, index: u32, address: &[u8], outbox: &mut [u8]) -> RawAnswer {
     let (h, l, a, len, room) = (&mut e.head, &mut e.links, address.as_ptr(), address.len(), outbox.len());
     // SAFETY: as above.
     unsafe { kohlsilk_lent_new_address(h, l, &e.searches, &e.numbers, &e.texts, index, a, len, outbox.as_mut_ptr(), room) }
 }
 
-pub fn deleted_address(e: &mut HeldEngine, index: u32, address: &[u8]) -> HeldAnswer {
+pub fn deleted_address(e: &mut EngineArrays, index: u32, address: &[u8]) -> RawAnswer {
     // SAFETY: as above.
     unsafe { kohlsilk_lent_deleted_address(&mut e.head, &mut e.links, &e.numbers, index, address.as_ptr(), address.len()) }
 }
 
-pub fn subscribe(e: &mut HeldEngine, kind: &[u8], outbox: &mut [u8]) -> HeldAnswer {
-    let (h, s, k, len, room) = (&mut e.head, &mut e.searches, kind.as_ptr(), kind.len(), outbox.len());
+pub fn subscribe(e: &mut EngineArrays, service_type: &[u8], outbox: &mut [u8]) -> RawAnswer {
+    let (h, s, k, len, room) = (&mut e.head, &mut e.searches, service_type.as_ptr(), service_type.len(), outbox.len());
     // SAFETY: as above.
     unsafe { kohlsilk_lent_subscribe(h, &e.links, s, &e.numbers, k, len, outbox.as_mut_ptr(), room) }
 }
 
-pub fn advertise(e: &mut HeldEngine, name: &[u8], kind: &[u8], location: &[u8], outbox: &mut [u8]) -> HeldAnswer {
+pub fn advertise(e: &mut EngineArrays, name: &[u8], service_type: &[u8], location: &[u8], outbox: &mut [u8]) -> RawAnswer {
     let (h, n, t, room) = (&mut e.head, &mut e.numbers, &mut e.texts, outbox.len());
-    let (u, u_len, k, k_len, l, l_len) = (name.as_ptr(), name.len(), kind.as_ptr(), kind.len(), location.as_ptr(), location.len());
+    let (u, u_len, k, k_len, l, l_len) =
+        (name.as_ptr(), name.len(), service_type.as_ptr(), service_type.len(), location.as_ptr(), location.len());
     // SAFETY: as above.
     unsafe { kohlsilk_lent_advertise(h, &e.links, n, t, u, u_len, k, k_len, l, l_len, outbox.as_mut_ptr(), room) }
 }
 
-pub fn deadvertise(e: &mut HeldEngine, name: &[u8], outbox: &mut [u8]) -> HeldAnswer {
+pub fn deadvertise(e: &mut EngineArrays, name: &[u8], outbox: &mut [u8]) -> RawAnswer {
     let (h, n, t, len, room) = (&mut e.head, &mut e.numbers, &mut e.texts, name.len(), outbox.len());
     // SAFETY: as above.
     unsafe { kohlsilk_lent_deadvertise(h, &e.links, n, t, name.as_ptr(), len, outbox.as_mut_ptr(), room) }
 }
 
-pub fn refresh(e: &HeldEngine, outbox: &mut [u8]) -> HeldAnswer {
+pub fn refresh(e: &EngineArrays, outbox: &mut [u8]) -> RawAnswer {
     // SAFETY: as above.
     unsafe { kohlsilk_lent_refresh(&e.head, &e.links, &e.searches, &e.numbers, &e.texts, outbox.as_mut_ptr(), outbox.len()) }
 }
 
-pub fn on_data(e: &mut HeldEngine, time: u64, sender: u32, port: u16, receiver: u32, datagram: &[u8]) -> HeldAnswer {
+pub fn on_data(e: &mut EngineArrays, time: u64, sender: u32, port: u16, receiver: u32, datagram: &[u8]) -> RawAnswer {
     let (n, t, d, len) = (&mut e.numbers, &mut e.texts, datagram.as_ptr(), datagram.len());
     // SAFETY: as above.
     unsafe { kohlsilk_lent_on_data(&e.head, &e.searches, n, t, time, sender, port, receiver, d, len) }
 }
 
-pub fn handle_timeout(e: &mut HeldEngine, time: u64, outbox: &mut [u8]) -> HeldAnswer {
+pub fn handle_timeout(e: &mut EngineArrays, time: u64, outbox: &mut [u8]) -> RawAnswer {
     let (h, n, room) = (&mut e.head, &mut e.numbers, outbox.len());
     // SAFETY: as above.
     unsafe { kohlsilk_lent_handle_timeout(h, &e.links, &e.searches, n, &e.texts, time, outbox.as_mut_ptr(), room) }
 }
 
-pub fn reset_refresh_timer(e: &mut HeldEngine, time: u64) -> HeldAnswer {
+pub fn reset_refresh_timer(e: &mut EngineArrays, time: u64) -> RawAnswer {
     // SAFETY: as above.
     unsafe { kohlsilk_lent_reset_refresh_timer(&mut e.head, &e.numbers, time) }
 }
@@ -284,7 +285,7 @@ mod tests {
     }
 
     /// The rows of name k.
-    fn name_row(e: &HeldEngine, k: usize) -> (&[u64], &[u8]) {
+    fn name_row(e: &EngineArrays, k: usize) -> (&[u64], &[u8]) {
         (row(&e.numbers, NUMBERS_WIDTH, k), row(&e.texts, TEXTS_WIDTH, k))
     }
 
@@ -301,7 +302,7 @@ mod tests {
     /// The library writes each number and each text where this crate has its row: numbers that differ show up in their own places.
     #[test]
     fn the_library_has_this_layout() {
-        let (mut e, mut outbox) = (HeldEngine::BLANK, vec![0; OUTBOX_SIZE]);
+        let (mut e, mut outbox) = (EngineArrays::BLANK, vec![0; OUTBOX_SIZE]);
         e.head = [u64::MAX; HEAD_PLACES];
         assert_eq!(new(&mut e, 0x0102_0304, 7).poll, 7);
         assert_eq!(e.head, [0x0102_0304, 7, 0, 0, 0, 0]);
@@ -319,15 +320,18 @@ mod tests {
         let (numbers, texts) = name_row(&e, 0);
         let due = 100 + 10 + 0x0102_0304 % 1000;
         assert_eq!(numbers, [4, 3, 8, 4, 2, due, 0x0a00_0009, 5000, 0x0a00_0001]);
-        let (kind, location) = (&texts[NAME_SIZE..], &texts[NAME_SIZE + TYPE_SIZE..]);
+        let (service_type, location) = (&texts[NAME_SIZE..], &texts[NAME_SIZE + TYPE_SIZE..]);
         let answer = &location[LOCATION_SIZE..];
-        assert_eq!((&texts[..4], &kind[..3], &location[..8], &answer[..4]), (&b"name"[..], &b"t:2"[..], &b"location"[..], &b"t:01"[..]));
+        assert_eq!(
+            (&texts[..4], &service_type[..3], &location[..8], &answer[..4]),
+            (&b"name"[..], &b"t:2"[..], &b"location"[..], &b"t:01"[..])
+        );
     }
 
     /// The library holds as many of each as this crate says, of texts as long, and no more; each stands in its row, up to the arrays' ends.
     #[test]
     fn the_library_has_these_sizes() {
-        let (mut e, mut outbox) = (HeldEngine::BLANK, vec![0; OUTBOX_SIZE]);
+        let (mut e, mut outbox) = (EngineArrays::BLANK, vec![0; OUTBOX_SIZE]);
         new(&mut e, 0, 0);
         for index in 1..=LINKS as u32 {
             assert_eq!(new_link(&mut e, index, UP, 0, &mut outbox).refusal, 0);
@@ -350,8 +354,8 @@ mod tests {
             let row = row(&e.searches, SEARCH_WIDTH, k);
             assert_eq!((usize::from(row[0]), &row[1..]), (TYPE_SIZE, &long(TYPE_SIZE, k)[..]));
         }
-        for (name, kind, location) in [(1, 0, 0), (0, 1, 0), (0, 0, 1)] {
-            let texts = (&long(NAME_SIZE + name, 0), &long(TYPE_SIZE + kind, 0), &long(LOCATION_SIZE + location, 0));
+        for (name, service_type, location) in [(1, 0, 0), (0, 1, 0), (0, 0, 1)] {
+            let texts = (&long(NAME_SIZE + name, 0), &long(TYPE_SIZE + service_type, 0), &long(LOCATION_SIZE + location, 0));
             assert_eq!(advertise(&mut e, texts.0, texts.1, texts.2, &mut outbox).refusal, 3);
         }
         for k in 0..=NAMES {
@@ -373,14 +377,14 @@ mod tests {
     /// Any bytes are an engine: every call comes back, reports no more records than an outbox has and writes nothing behind the outbox.
     #[test]
     fn any_bytes_are_an_engine() {
-        let (mut e, mut bytes, mut dice) = (HeldEngine::BLANK, vec![0; OUTBOX_SIZE + 64], 1u64);
+        let (mut e, mut bytes, mut dice) = (EngineArrays::BLANK, vec![0; OUTBOX_SIZE + 64], 1u64);
         let mut roll = || {
             dice = dice.wrapping_mul(6_364_136_223_846_793_005).wrapping_add(1_442_695_040_888_963_407);
             (dice >> 33) as u8
         };
         for round in 0..300 {
             // SAFETY: the bytes are those of `e`, which is numbers alone.
-            let held = unsafe { core::slice::from_raw_parts_mut((&raw mut e).cast::<u8>(), size_of::<HeldEngine>()) };
+            let held = unsafe { core::slice::from_raw_parts_mut((&raw mut e).cast::<u8>(), size_of::<EngineArrays>()) };
             held.iter_mut().for_each(|byte| *byte = roll());
             // Counts and lengths that are in their bounds, too.
             if round % 2 == 0 {
@@ -429,8 +433,8 @@ mod tests {
         claim("KOHLSILK_RECORD", RECORD_SIZE);
         claim("KOHLSILK_RECORDS", RECORDS);
         claim("KOHLSILK_OUTBOX", OUTBOX_SIZE);
-        claim("sizeof(struct kohlsilk_engine)", size_of::<HeldEngine>());
-        claim("sizeof(struct kohlsilk_answer)", size_of::<HeldAnswer>());
+        claim("sizeof(struct kohlsilk_engine)", size_of::<EngineArrays>());
+        claim("sizeof(struct kohlsilk_answer)", size_of::<RawAnswer>());
         claim("sizeof(struct kohlsilk_parsed)", size_of::<Parsed>());
         claim("sizeof(struct kohlsilk_written)", size_of::<Written>());
         claim("sizeof(((struct kohlsilk_engine *)0)->head)", size_of::<Head>());
@@ -438,12 +442,12 @@ mod tests {
         claim("sizeof(((struct kohlsilk_engine *)0)->searches)", size_of::<Searches>());
         claim("sizeof(((struct kohlsilk_engine *)0)->numbers)", size_of::<Numbers>());
         claim("sizeof(((struct kohlsilk_engine *)0)->texts)", size_of::<Texts>());
-        claim("offsetof(struct kohlsilk_engine, links)", offset_of!(HeldEngine, links));
-        claim("offsetof(struct kohlsilk_engine, searches)", offset_of!(HeldEngine, searches));
-        claim("offsetof(struct kohlsilk_engine, numbers)", offset_of!(HeldEngine, numbers));
-        claim("offsetof(struct kohlsilk_engine, texts)", offset_of!(HeldEngine, texts));
-        claim("offsetof(struct kohlsilk_answer, poll)", offset_of!(HeldAnswer, poll));
-        claim("offsetof(struct kohlsilk_answer, leave)", offset_of!(HeldAnswer, leave));
+        claim("offsetof(struct kohlsilk_engine, links)", offset_of!(EngineArrays, links));
+        claim("offsetof(struct kohlsilk_engine, searches)", offset_of!(EngineArrays, searches));
+        claim("offsetof(struct kohlsilk_engine, numbers)", offset_of!(EngineArrays, numbers));
+        claim("offsetof(struct kohlsilk_engine, texts)", offset_of!(EngineArrays, texts));
+        claim("offsetof(struct kohlsilk_answer, poll)", offset_of!(RawAnswer, poll));
+        claim("offsetof(struct kohlsilk_answer, leave)", offset_of!(RawAnswer, leave));
         claim("KOHLSILK_JOIN_FAILED", crate::Refusal::JOIN_FAILED.number() as usize);
         let include = concat!(env!("CARGO_MANIFEST_DIR"), "/../../include");
         let mut cc = Command::new("cc");

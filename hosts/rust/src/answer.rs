@@ -1,5 +1,5 @@
 //! What an accepted call answers.
-use crate::abi::HeldAnswer;
+use crate::abi::RawAnswer;
 use crate::record::Records;
 use crate::refusal::Refusal;
 
@@ -33,7 +33,7 @@ pub struct Answer {
 
 impl Answer {
     /// The answer, unless it is a refusal.
-    pub(crate) fn of(held: &HeldAnswer) -> Result<Answer, Refusal> {
+    pub(crate) fn of(held: &RawAnswer) -> Result<Answer, Refusal> {
         Refusal::check(held.refusal)?;
         Ok(Answer {
             records: held.records,

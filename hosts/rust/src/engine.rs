@@ -1,5 +1,5 @@
 //! The engine and its calls.
-use crate::abi::{self, HeldAnswer, HeldEngine};
+use crate::abi::{self, EngineArrays, RawAnswer};
 use crate::answer::Answer;
 use crate::refusal::Refusal;
 use core::fmt;
@@ -12,7 +12,7 @@ use core::net::{Ipv4Addr, SocketAddrV4};
 /// a shorter one is refused by number 2. A refused call changes nothing.
 #[derive(Clone)]
 pub struct Engine {
-    held: HeldEngine,
+    arrays: EngineArrays,
     waiting: usize,
     poll: u64,
 }
@@ -21,8 +21,8 @@ impl Engine {
     /// An engine whose first refresh is due at `time`. The seed spreads delays: take a random one. Where the time is refused there is an
     /// engine all the same, which begins at time 0: the error holds it.
     pub fn new(random_seed: u32, time: u64) -> Result<Engine, RefusedStart> {
-        let mut engine = Engine { held: HeldEngine::BLANK, waiting: 0, poll: 0 };
-        let answer = abi::new(&mut engine.held, random_seed, time);
+        let mut engine = Engine { arrays: EngineArrays::BLANK, waiting: 0, poll: 0 };
+        let answer = abi::new(&mut engine.arrays, random_seed, time);
         match engine.noted(answer) {
             Ok(_) => Ok(engine),
             Err(refusal) => Err(RefusedStart { engine, refusal }),
@@ -42,31 +42,31 @@ impl Engine {
     /// A link is there, or has turned up or down (its flags: [`flags`](crate::flags)). For one that is new the host first joins the group on it, and
     /// hands in 0 or the error's number as the outcome. A link without `MULTICAST` is passed over.
     pub fn new_link(&mut self, index: u32, flags: u32, outcome: u32, outbox: &mut [u8]) -> Result<Answer, Refusal> {
-        let answer = abi::new_link(&mut self.held, index, flags, outcome, outbox);
+        let answer = abi::new_link(&mut self.arrays, index, flags, outcome, outbox);
         self.noted(answer)
     }
 
     /// A link has gone, with the outcome of leaving the group on it, which is answered if the link was held.
     pub fn deleted_link(&mut self, index: u32, outcome: u32) -> Result<Answer, Refusal> {
-        let answer = abi::deleted_link(&mut self.held, index, outcome);
+        let answer = abi::deleted_link(&mut self.arrays, index, outcome);
         self.noted(answer)
     }
 
     /// An address is on a link. One of 16 bytes (IPv6) is passed over.
     pub fn new_address(&mut self, index: u32, address: &[u8], outbox: &mut [u8]) -> Result<Answer, Refusal> {
-        let answer = abi::new_address(&mut self.held, index, address, outbox);
+        let answer = abi::new_address(&mut self.arrays, index, address, outbox);
         self.noted(answer)
     }
 
     /// An address has gone from a link.
     pub fn deleted_address(&mut self, index: u32, address: &[u8]) -> Result<Answer, Refusal> {
-        let answer = abi::deleted_address(&mut self.held, index, address);
+        let answer = abi::deleted_address(&mut self.arrays, index, address);
         self.noted(answer)
     }
 
     /// Searches for a type, now and at each refresh. Answers of later datagrams name it by its number, counted from 0.
-    pub fn subscribe(&mut self, kind: impl AsRef<[u8]>, outbox: &mut [u8]) -> Result<Answer, Refusal> {
-        let answer = abi::subscribe(&mut self.held, kind.as_ref(), outbox);
+    pub fn subscribe(&mut self, service_type: impl AsRef<[u8]>, outbox: &mut [u8]) -> Result<Answer, Refusal> {
+        let answer = abi::subscribe(&mut self.arrays, service_type.as_ref(), outbox);
         self.noted(answer)
     }
 
@@ -75,47 +75,47 @@ impl Engine {
     pub fn advertise(
         &mut self,
         name: impl AsRef<[u8]>,
-        kind: impl AsRef<[u8]>,
+        service_type: impl AsRef<[u8]>,
         location: impl AsRef<[u8]>,
         outbox: &mut [u8],
     ) -> Result<Answer, Refusal> {
-        let answer = abi::advertise(&mut self.held, name.as_ref(), kind.as_ref(), location.as_ref(), outbox);
+        let answer = abi::advertise(&mut self.arrays, name.as_ref(), service_type.as_ref(), location.as_ref(), outbox);
         self.noted(answer)
     }
 
     /// Says that the service of a name has gone. A name that is not held does nothing.
     pub fn deadvertise(&mut self, name: impl AsRef<[u8]>, outbox: &mut [u8]) -> Result<Answer, Refusal> {
-        let answer = abi::deadvertise(&mut self.held, name.as_ref(), outbox);
+        let answer = abi::deadvertise(&mut self.arrays, name.as_ref(), outbox);
         self.noted(answer)
     }
 
     /// Announces all, and searches for all, at once.
     pub fn refresh(&mut self, outbox: &mut [u8]) -> Result<Answer, Refusal> {
-        let answer = abi::refresh(&self.held, outbox);
+        let answer = abi::refresh(&self.arrays, outbox);
         self.noted(answer)
     }
 
     /// A datagram has come. `receiver` is the host's address that it reached: for one sent to the group, that of the link it came by.
     pub fn on_data(&mut self, time: u64, sender: SocketAddrV4, receiver: Ipv4Addr, datagram: &[u8]) -> Result<Answer, Refusal> {
         let (address, port) = (u32::from(*sender.ip()), sender.port());
-        let answer = abi::on_data(&mut self.held, time, address, port, receiver.into(), datagram);
+        let answer = abi::on_data(&mut self.arrays, time, address, port, receiver.into(), datagram);
         self.noted(answer)
     }
 
     /// To be called once [`Engine::poll`] has come: sends the replies that are due, and the refresh if that is.
     pub fn handle_timeout(&mut self, time: u64, outbox: &mut [u8]) -> Result<Answer, Refusal> {
-        let answer = abi::handle_timeout(&mut self.held, time, outbox);
+        let answer = abi::handle_timeout(&mut self.arrays, time, outbox);
         self.noted(answer)
     }
 
     /// Begins the refreshes anew, as after the network was away.
     pub fn reset_refresh_timer(&mut self, time: u64) -> Result<Answer, Refusal> {
-        let answer = abi::reset_refresh_timer(&mut self.held, time);
+        let answer = abi::reset_refresh_timer(&mut self.arrays, time);
         self.noted(answer)
     }
 
     /// Remembers when to wake: a refusal has the untouched engine's `waiting` and `poll`, so every answer tells.
-    fn noted(&mut self, answer: HeldAnswer) -> Result<Answer, Refusal> {
+    fn noted(&mut self, answer: RawAnswer) -> Result<Answer, Refusal> {
         self.waiting = answer.waiting;
         self.poll = answer.poll;
         Answer::of(&answer)

@@ -61,8 +61,8 @@ fn a_name_that_leaves_says_so_and_drops_its_reply() {
 #[test]
 fn subscriptions_are_told_by_number() {
     let (mut engine, mut outbox) = serving();
-    for kind in ["t:2", "u:1", "t:1", "ssdp:all"] {
-        assert_eq!(engine.subscribe(kind, &mut outbox).unwrap().records, 1);
+    for service_type in ["t:2", "u:1", "t:1", "ssdp:all"] {
+        assert_eq!(engine.subscribe(service_type, &mut outbox).unwrap().records, 1);
     }
     let mut buffer = [0; kohlsilk::MESSAGE_MAX];
     let notify = kohlsilk::build_notify(&mut buffer, "t:1", "u", "http://h/").unwrap();

@@ -21,7 +21,7 @@ LoneWait none = ⊥
 LoneWait (some w) = w .group ≡ false
 
 abbrev pub Traced : ℕ → ℕ → List Call → Name → Type 0
-Traced seed time cs n = LoneWait (n .wait) → Opened seed time cs n
+Traced seed time cs n = In n (ledgerOf seed time cs .names) → LoneWait (n .wait) → Opened seed time cs n
 
 -- a wait that is lone after a search joined it was lone before, and is the same
 or-left : (b c : Bool) → (b || c) ≡ false → b ≡ false
@@ -35,16 +35,16 @@ module _ (seed time : ℕ) (cs : List Call) (c : Call) (k : refusalIn (ledgerOf 
   searched-traced : (q : Query) → acts c ≡ Asks q ∷ [] → (n : Name) → In n (ledgerOf seed time cs .names) → (b : Bool) (o : Option Wait) →
       targetMatch (q .target) (n .kind) ≡ b → n .wait ≡ o → Traced seed time (c ∷ cs) n → Traced seed time (c ∷ cs) (withWait n (searched b seed q (n .kind) o .wait))
   searched-traced q a n i false o m e h = subst (λ (x : Option Wait). Traced seed time (c ∷ cs) (withWait n x)) e h
-  searched-traced q a n i true none m e h = λ _. here q k a i e m
-  searched-traced q a n i true (some w) m e h = λ g.
+  searched-traced q a n i true none m e h = λ _ _. here q k a i e m
+  searched-traced q a n i true (some w) m e h = λ j g.
       let f : w .group ≡ false = or-left (w .group) _ g in
-      subst (λ (x : Wait). Opened seed time (c ∷ cs) (withWait n (some x))) (joined-lone q w g f)
-      (subst (λ (x : Option Wait). Traced seed time (c ∷ cs) (withWait n x)) e h f)
+      subst (λ (x : Wait). Traced seed time (c ∷ cs) (withWait n (some x))) (joined-lone q w g f)
+      (subst (λ (x : Option Wait). Traced seed time (c ∷ cs) (withWait n x)) e h) j g
 
   timed-traced : (n : Name) (b : Bool) (o : Option Wait) → n .wait ≡ o → Traced seed time (c ∷ cs) n → Traced seed time (c ∷ cs) (withWait n (timedOut b o .wait))
   timed-traced n false o e h = subst (λ (x : Option Wait). Traced seed time (c ∷ cs) (withWait n x)) e h
-  timed-traced n true none e h = λ g. absurd g
-  timed-traced n true (some w) e h = λ g. absurd g
+  timed-traced n true none e h = λ _ g. absurd g
+  timed-traced n true (some w) e h = λ _ g. absurd g
 
 -- what each name keeps, all keep
 each-turn : {P Q : Name → Type 0} (f : Name → Change) → ((n : Name) → Q n → P (withWait n (f n .wait))) → {ns : List Name} → Each Q ns → Each P (each f ns .names)
@@ -61,7 +61,7 @@ module _ (seed time : ℕ) (cs : List Call) (c : Call) (k : refusalIn (ledgerOf 
   turn-traced : (x : Act) → acts c ≡ x ∷ [] → {ns : List Name} → Each (Member seed time cs c) ns → Each (Traced seed time (c ∷ cs)) (turn seed ns x .names)
   unfolding turn
   turn-traced (Enters name kind location) e h =
-      each-enter named (record { name = name; kind = kind; location = location; wait = none }) (λ g. absurd g) (each-as (λ n m. m .1) h)
+      each-enter named (record { name = name; kind = kind; location = location; wait = none }) (λ _ g. absurd g) (each-as (λ n m. m .1) h)
   turn-traced (Leaves name) e h = each-leave named name (each-as (λ n m. m .1) h)
   turn-traced (Asks q) e h =
       each-turn (λ n. searched (targetMatch (q .target) (n .kind)) seed q (n .kind) (n .wait))
@@ -115,7 +115,7 @@ traced seed time [] = nobody
 traced seed time (c ∷ cs) =
     let h = traced seed time cs in
     entry-traced seed time cs c (refusalIn (ledgerOf seed time cs) c) refl
-    (each-by (ledgerOf seed time cs .names) (λ n i. (i, λ g. later (each-at h n i g))))
+    (each-by (ledgerOf seed time cs .names) (λ n i. (i, λ j g. later (each-at h n i i g) j)))
 
 -- what a lone wait answers matches the advertised type
 answer-matches : (laws : Laws) (b : Bool) (q : Query) (kind : Text) → targetMatch (q .target) kind ≡ true → targetMatch (cond b kind (q .target)) kind ≡ true
@@ -128,4 +128,4 @@ Answering kind (some w) = targetMatch (w .answer) kind ≡ true
 
 pub opened-matches : (laws : Laws) (seed time : ℕ) {cs : List Call} {n : Name} → Opened seed time cs n → Answering (n .kind) (n .wait)
 opened-matches laws seed time (here {n = n} q k a i e m) = answer-matches laws (equal (q .target) ssdpAll) q (n .kind) m
-opened-matches laws seed time (later o) = opened-matches laws seed time o
+opened-matches laws seed time (later o i) = opened-matches laws seed time o

@@ -27,7 +27,7 @@ use Rattle.engine.proofs.LeafLaws.{Laws}
 use Rattle.engine.proofs.Members.{Each, nobody, both, each-at}
 use Rattle.engine.proofs.Agreement.{Table, Agree, SameCounts, no-counts, plus-same, same-counts, step-same, turned-same, announced-same, served-same}
 use Rattle.engine.proofs.Balance.{ledger-level}
-use Rattle.engine.proofs.Openings.{LoneWait, Answering, traced, opened-matches}
+use Rattle.engine.proofs.Openings.{LoneWait, Answering, traced, sole-opener, opened-matches}
 use Rattle.engine.proofs.Bound.{records-bound}
 use Rattle.engine.proofs.Reachable.{Reachable, few-of, reachable-fresh, reachable-step}
 use Rattle.engine.proofs.Messages.{step-built}
@@ -168,6 +168,7 @@ lone laws seed time cs n w i e g =
     record {
       reply = rw (e, g);
       opening = o;
+      sole = λ p. sole-opener seed time p o refl;
       matching = subst (Answering (n .kind)) e (opened-matches laws seed time o);
     }
 

@@ -1,19 +1,22 @@
--- Where a lone wait comes from: in the ledger of every list, each was opened by an accepted search of the list, and its answer type matches the name's type.
+-- Where a lone wait comes from: in the ledger of every list, each was opened by one accepted search of the list, and its answer type matches the name's type.
 -- A wait that is still lone after a later search is the very wait that it was.
-use mathlib.Core.Path.{_≡_, refl, sym, _∙_, subst}
+use mathlib.Core.Path.{_≡_, refl, sym, _∙_, ap, subst}
 use mathlib.Core.Bool.{Bool, true, false, cond, _||_}
-use mathlib.Core.List.{List, [], _∷_, List·Memᴰ as In}
+use mathlib.Core.List.{List, [], _∷_, map, List·Memᴰ as In, List·Memᴰ·head as first, List·Memᴰ·tail as after}
 use mathlib.Core.Option.{Option, none, some}
 use Prim.Native.Nat.{ℕ, zero, suc}
+use native.Mathlib.Omega.{arith}
 use Rattle.text.specs.Bytes.{equal}
 use Rattle.engine.specs.Target.{ssdpAll, targetMatch}
 use Rattle.engine.specs.Held.{Text, Context}
 use Rattle.engine.specs.Calls.{Call, NewLink, DeletedLink, NewAddress, DeletedAddress, Subscribe, Advertise, Deadvertise, Refresh, Datagram, Timeout, ResetTimer, Query, Act, Enters, Leaves, Asks, Ticks, acts}
 use Rattle.engine.specs.Links.{contextAfter}
-use Rattle.engine.specs.Ledger.{Wait, Name, named, withWait, Change, joined, searched, dueAt, timedOut, each, turn, turns, Ledger, refusalIn, entered, ifAccepted, entry, ledgerOf}
-use Rattle.engine.specs.Claim.{Opened, here, later}
+use Rattle.engine.specs.Ledger.{Wait, Name, named, withWait, waitCount, Change, opened, joined, searched, dueAt, timedOut, each, turn, turns, Ledger, refusalIn, entered, ifAccepted, entry, ledgerOf}
+use Rattle.engine.specs.Claim.{Opened, here, later, since}
 use Rattle.engine.proofs.Accepted.{Single, single}
+use Rattle.engine.proofs.Ascending.{Ascending, empty, ascending-enter, ascending-leave, ascending-map, in-one}
 use Rattle.engine.proofs.LeafLaws.{Laws}
+use Rattle.engine.proofs.Orders.{by-name}
 use Rattle.engine.proofs.Members.{Each, nobody, both, each-at, each-by, each-as, each-enter, each-leave}
 
 abbrev pub LoneWait : Option Wait → Type 0
@@ -117,7 +120,85 @@ traced seed time (c ∷ cs) =
     entry-traced seed time cs c (refusalIn (ledgerOf seed time cs) c) refl
     (each-by (ledgerOf seed time cs .names) (λ n i. (i, λ j g. later (each-at h n i i g) j)))
 
--- what a lone wait answers matches the advertised type
+-- ---- one opener
+-- a search puts each name that it changes where it was
+in-each : (f : Name → Change) (n : Name) {ns : List Name} → In n ns → In (withWait n (f n .wait)) (each f ns .names)
+unfolding each
+in-each f n (first e) = first (ap (λ (m : Name). withWait m (f m .wait)) e)
+in-each f n (after i) = after (in-each f n i)
+
+searched-opens : (b : Bool) (seed : ℕ) (q : Query) (kind : Text) (o : Option Wait) → b ≡ true → o ≡ none → searched b seed q kind o .wait ≡ some (opened seed q kind)
+searched-opens b seed q kind o e f = rw (e, f)
+
+asked-in : (seed : ℕ) (ns : List Name) (q : Query) (n : Name) → In n ns → n .wait ≡ none → targetMatch (q .target) (n .kind) ≡ true →
+    In (withWait n (some (opened seed q (n .kind)))) (turns seed ns (Asks q ∷ []) .names)
+unfolding turns turn
+asked-in seed ns q n i e m =
+    let f : Name → Change = λ n. searched (targetMatch (q .target) (n .kind)) seed q (n .kind) (n .wait) in
+    subst (λ (x : Option Wait). In (withWait n x) (each f ns .names)) (searched-opens (targetMatch (q .target) (n .kind)) seed q (n .kind) (n .wait) m e) (in-each f n i)
+
+entered-in : (k : ℕ) (l : Ledger) (c : Call) (n : Name) → k ≡ 0 → In n (turns (l .context .seed) (l .names) (acts c) .names) →
+    In n (ifAccepted k l (entered l c) .ledger .names)
+unfolding entered
+entered-in zero l c n e i = i
+entered-in (suc k) l c n e i = absurd (omega arith)
+
+-- what was opened is held
+opened-in : (seed time : ℕ) {cs : List Call} {n : Name} → Opened seed time cs n → In n (ledgerOf seed time cs .names)
+unfolding ledgerOf entry
+opened-in seed time (here {c = c} {cs = cs} {n = n} q k a i e m) =
+    entered-in (refusalIn (ledgerOf seed time cs) c) (ledgerOf seed time cs) c (withWait n (some (opened seed q (n .kind)))) k
+    (subst (λ (xs : List Act). In (withWait n (some (opened seed q (n .kind)))) (turns (ledgerOf seed time cs .context .seed) (ledgerOf seed time cs .names) xs .names)) (sym a)
+    (subst (λ (s : ℕ). In (withWait n (some (opened seed q (n .kind)))) (turns s (ledgerOf seed time cs .names) (Asks q ∷ []) .names)) (sym (seed-kept seed time cs))
+    (asked-in seed (ledgerOf seed time cs .names) q n i e m)))
+opened-in seed time (later o i) = i
+
+-- each name stands once in the ledger
+each-names : (f : Name → Change) (ns : List Name) → each f ns .names ≡ map (λ n. withWait n (f n .wait)) ns
+unfolding each
+each-names f [] = refl
+each-names f (n ∷ ns) = ap (λ (l : List Name). withWait n (f n .wait) ∷ l) (each-names f ns)
+
+ascending-each : (f : Name → Change) {ns : List Name} → Ascending named ns → Ascending named (each f ns .names)
+ascending-each f {ns} h = subst (Ascending named) (sym (each-names f ns)) (ascending-map named (λ n. withWait n (f n .wait)) (λ n. refl) h)
+
+ascending-turn : (seed : ℕ) (x : Act) {ns : List Name} → Ascending named ns → Ascending named (turn seed ns x .names)
+unfolding turn
+ascending-turn seed (Enters name kind location) h = ascending-enter named by-name (record { name = name; kind = kind; location = location; wait = none }) h
+ascending-turn seed (Leaves name) h = ascending-leave named by-name name h
+ascending-turn seed (Asks q) h = ascending-each (λ n. searched (targetMatch (q .target) (n .kind)) seed q (n .kind) (n .wait)) h
+ascending-turn seed (Ticks now) h = ascending-each (λ n. timedOut (dueAt now (n .wait)) (n .wait)) h
+
+ascending-turns : (seed : ℕ) (xs : List Act) {ns : List Name} → Ascending named ns → Ascending named (turns seed ns xs .names)
+unfolding turns
+ascending-turns seed [] h = h
+ascending-turns seed (x ∷ xs) h = ascending-turns seed xs (ascending-turn seed x h)
+
+ascending-entry : (k : ℕ) (l : Ledger) (c : Call) → Ascending named (l .names) → Ascending named (ifAccepted k l (entered l c) .ledger .names)
+unfolding entered
+ascending-entry zero l c h = ascending-turns (l .context .seed) (acts c) h
+ascending-entry (suc k) l c h = h
+
+ledger-ascending : (seed time : ℕ) (cs : List Call) → Ascending named (ledgerOf seed time cs .names)
+unfolding ledgerOf entry
+ledger-ascending seed time [] = empty
+ledger-ascending seed time (c ∷ cs) = ascending-entry (refusalIn (ledgerOf seed time cs) c) (ledgerOf seed time cs) c (ledger-ascending seed time cs)
+
+-- so a name that is held without a wait is not held with one, and a search that opens one finds none opened before
+clash : (seed time : ℕ) (cs : List Call) (n : Name) (w : Wait) → In n (ledgerOf seed time cs .names) → n .wait ≡ none → In (withWait n (some w)) (ledgerOf seed time cs .names) → ⊥
+clash seed time cs n w i e j =
+    let p = in-one named by-name (ledger-ascending seed time cs) n (withWait n (some w)) i j refl in
+    omega (arith, ap waitCount (sym e ∙ ap (λ (m : Name). m .wait) p))
+
+pub sole-opener : (seed time : ℕ) {cs : List Call} {n m : Name} (o : Opened seed time cs n) (p : Opened seed time cs m) → n ≡ m → since o ≡ since p
+sole-opener seed time (here q k a i e m) (here q′ k′ a′ i′ e′ m′) s = refl
+sole-opener seed time (here {cs = cs} {n = n} q k a i e m) (later p j) s =
+    absurd (clash seed time cs n (opened seed q (n .kind)) i e (subst (λ (x : Name). In x (ledgerOf seed time cs .names)) (sym s) (opened-in seed time p)))
+sole-opener seed time (later o j) (here {cs = cs} {n = n} q k a i e m) s =
+    absurd (clash seed time cs n (opened seed q (n .kind)) i e (subst (λ (x : Name). In x (ledgerOf seed time cs .names)) s (opened-in seed time o)))
+sole-opener seed time (later o j) (later p j′) s = ap suc (sole-opener seed time o p s)
+
+-- ---- what a lone wait answers matches the advertised type
 answer-matches : (laws : Laws) (b : Bool) (q : Query) (kind : Text) → targetMatch (q .target) kind ≡ true → targetMatch (cond b kind (q .target)) kind ≡ true
 answer-matches laws true q kind e = laws .match-self kind
 answer-matches laws false q kind e = e

@@ -1,7 +1,7 @@
 -- Demand 3, the statement: one claim about every list of calls (document 01, 'Engine and ledger'; proved in proofs/Demand3). `Claim`, at the end, says it.
 -- It rests on the ledger (Ledger), on what the calls promise (Promises: `Begins`, `Answers`) and on the records and their bytes (Records, Layout).
 -- A list is given the latest call first, so that the calls before one are the rest of the list. `In x l` says that x stands in l.
-use Prim.Native.Nat.{ℕ, _+_, _≤_, _<_}
+use Prim.Native.Nat.{ℕ, suc, _+_, _≤_, _<_}
 use mathlib.Core.Path.{_≡_}
 use mathlib.Core.Bool.{true, false, cond}
 use mathlib.Core.List.{List, [], _∷_, _++_, List·Memᴰ as In}
@@ -50,6 +50,11 @@ pub data Opened (seed time : ℕ) : List Call → Name → Type 0 where
       Opened seed time (c ∷ cs) (withWait n (some (opened seed q (n .kind))))
   later : {c : Call} {cs : List Call} {n : Name} → Opened seed time cs n → In n (ledgerOf seed time (c ∷ cs) .names) → Opened seed time (c ∷ cs) n
 
+-- how many calls of the list came behind the opener
+abbrev pub since : {seed time : ℕ} {cs : List Call} {n : Name} → Opened seed time cs n → ℕ
+since (here q k a i e m) = 0
+since (later o i) = suc (since o)
+
 -- a waiting reply that is not due at or before now
 abbrev pub After : ℕ → ResponseNeeded → Type 0
 After now None = Unit {0}
@@ -62,10 +67,11 @@ timeoutRecords l now =
     cond (salvoDue (l .context) now) (ledgerRefresh (l .context) (l .names)) [] ++ ledgerRecords now (upAddresses (l .context .links)) (l .names)
 
 -- a lone reply that was sent: exactly one record, to its sender, from its receiving address, with its answer type and its name (Ledger, `loneReply`);
--- opened by an accepted search of the list; with an answer type that matches the advertised one
+-- opened by one accepted search of the list; with an answer type that matches the advertised one
 pub record Lone (seed time : ℕ) (cs : List Call) (n : Name) (w : Wait) : Type 0 where
   pub reply : repliesTo (upAddresses (ledgerOf seed time cs .context .links)) n (n .wait) ≡ loneReply n w ∷ []
   pub opening : Opened seed time cs n
+  pub sole : (o : Opened seed time cs n) → since o ≡ since opening
   pub matching : targetMatch (w .answer) (n .kind) ≡ true
 
 -- an accepted handle_timeout, behind the calls cs; rs are the records that it writes

@@ -7,20 +7,20 @@ use mathlib.Core.Bool.{true, false, cond}
 use mathlib.Core.List.{List, [], _∷_, _++_, List·Memᴰ as In}
 use mathlib.Core.Option.{none, some}
 use lib.ListN.{length}
 use Rattle.engine.specs.Sizes.{recordsMax}
 use Rattle.engine.specs.Target.{targetMatch}
 use Rattle.engine.specs.Held.{Advertisement}
 use Rattle.engine.specs.Calls.{Call, Timeout, Query, Asks, acts, Counts, zeros, plus}
 use Rattle.engine.specs.Links.{upAddresses}
 use Rattle.engine.specs.Records.{Record, salvoDue}
 use Rattle.engine.specs.Layout.{textOf, messageOf, written}
 use Rattle.engine.specs.Engine.{step}
 use Rattle.engine.specs.Arrays.{Engine, held}
 use Rattle.engine.specs.Promises.{Answered}
-use Rattle.engine.specs.Ledger.{Wait, Name, withWait, waitsIn, opened, loneReply, repliesTo, Ledger, refusalIn, entry, ledgerOf, sumsOf, ledgerRefresh, ledgerRecords}
+use Rattle.claims.specs.Ledger.{Wait, Name, withWait, waitsIn, opened, loneReply, repliesTo, Ledger, refusalIn, entry, ledgerOf, sumsOf, ledgerRefresh, ledgerRecords}
 use Rattle.engine.specs.declared.advertisement.ResponseNeeded.{ResponseNeeded}
 use Rattle.engine.specs.declared.advertisement.ResponseNeeded.the-variants.{None, Multicast, Unicast}
 use Rattle.engine.specs.declared.answer.Answer.{Answer}
 
 -- A list begins with one `new`, accepted or refused; then each call gets the engine that the call before it returned, with any arguments and any outbox.
 -- New and Gives say what the calls may have given: by the definitions `Begins` and `Answers`, or what a caller learns from the functions' contracts.

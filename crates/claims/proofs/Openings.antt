@@ -7,17 +7,17 @@ use mathlib.Core.Option.{Option, none, some}
 use Prim.Native.Nat.{ℕ, zero, suc}
 use native.Mathlib.Omega.{arith}
 use Rattle.text.specs.Bytes.{equal}
 use Rattle.engine.specs.Target.{ssdpAll, targetMatch}
 use Rattle.engine.specs.Held.{Text, Context}
 use Rattle.engine.specs.Calls.{Call, NewLink, DeletedLink, NewAddress, DeletedAddress, Subscribe, Advertise, Deadvertise, Refresh, Datagram, Timeout, ResetTimer, Query, Act, Enters, Leaves, Asks, Ticks, acts}
 use Rattle.engine.specs.Links.{contextAfter}
-use Rattle.engine.specs.Ledger.{Wait, Name, named, withWait, waitCount, Change, opened, joined, searched, dueAt, timedOut, each, turn, turns, Ledger, refusalIn, entered, ifAccepted, entry, ledgerOf}
-use Rattle.engine.specs.Claim.{Opened, here, later, since}
+use Rattle.claims.specs.Ledger.{Wait, Name, named, withWait, waitCount, Change, opened, joined, searched, dueAt, timedOut, each, turn, turns, Ledger, refusalIn, entered, ifAccepted, entry, ledgerOf}
+use Rattle.claims.specs.Claim.{Opened, here, later, since}
 use Rattle.engine.proofs.Accepted.{Single, single}
-use Rattle.engine.proofs.Ascending.{Ascending, empty, ascending-enter, ascending-leave, ascending-map, in-one}
-use Rattle.engine.proofs.LeafLaws.{Laws}
-use Rattle.engine.proofs.Orders.{by-name}
+use Rattle.claims.proofs.Ascending.{Ascending, empty, ascending-enter, ascending-leave, ascending-map, in-one}
+use Rattle.claims.proofs.LeafLaws.{Laws}
+use Rattle.claims.proofs.Orders.{by-name}
 use Rattle.engine.proofs.Members.{Each, nobody, both, each-at, each-by, each-as, each-enter, each-leave}
 
 abbrev pub LoneWait : Option Wait → Type 0
 LoneWait none = ⊥

@@ -8,29 +8,29 @@ use Prim.Native.Nat.{ℕ, zero, suc, _≤_}
 use native.Mathlib.Omega.{arith}
 use lib.ListN.{length}
 use borrow.Author.Tests.{leb-false}
 use Rattle.engine.specs.Sizes.{recordsMax}
 use Rattle.engine.specs.Held.{Context, Advertisement, Held, fresh}
 use Rattle.engine.specs.Calls.{Call, Timeout, acts}
 use Rattle.engine.specs.Links.{upAddresses}
 use Rattle.engine.specs.Records.{Record, isDue, flat, searchesOf, searchOn, refreshRecords, salvoDue, records}
 use Rattle.engine.specs.Replies.{sumOf, waiting, servedNeed, served, result, results}
 use Rattle.engine.specs.Refusals.{late, newRefusal}
 use Rattle.engine.specs.Engine.{turned, Step, accepted, unless, step, newStep}
 use Rattle.engine.specs.Arrays.{Engine, held}
 use Rattle.engine.specs.Promises.{Answered, Answers, Begins}
-use Rattle.engine.specs.Ledger.{Wait, Name, waitsIn, Ledger, entry, ledgerOf, sumsOf, ledgerRefresh}
-use Rattle.engine.specs.Claim.{Log, new, call, countsOf, total, lastWaiting, After, timeoutRecords, Lone, Serves, Exact, Every, Claim}
+use Rattle.claims.specs.Ledger.{Wait, Name, waitsIn, Ledger, entry, ledgerOf, sumsOf, ledgerRefresh}
+use Rattle.claims.specs.Claim.{Log, new, call, countsOf, total, lastWaiting, After, timeoutRecords, Lone, Serves, Exact, Every, Claim}
 use Rattle.engine.specs.declared.advertisement.ResponseNeeded.{ResponseNeeded}
 use Rattle.engine.specs.declared.advertisement.ResponseNeeded.the-variants.{None, Multicast, Unicast}
 use Rattle.engine.specs.declared.answer.Answer.{Answer}
-use Rattle.engine.proofs.LeafLaws.{Laws}
+use Rattle.claims.proofs.LeafLaws.{Laws}
 use Rattle.engine.proofs.Members.{Each, nobody, both, each-at}
-use Rattle.engine.proofs.Agreement.{Table, Agree, SameCounts, no-counts, plus-same, same-counts, step-same, turned-same, announced-same, served-same}
-use Rattle.engine.proofs.Balance.{ledger-level}
-use Rattle.engine.proofs.Openings.{LoneWait, Answering, traced, sole-opener, opened-matches}
-use Rattle.engine.proofs.Bound.{records-bound}
-use Rattle.engine.proofs.Reachable.{Reachable, few-of, reachable-fresh, reachable-step}
-use Rattle.engine.proofs.Messages.{step-built}
+use Rattle.claims.proofs.Agreement.{Table, Agree, SameCounts, no-counts, plus-same, same-counts, step-same, turned-same, announced-same, served-same}
+use Rattle.claims.proofs.Balance.{ledger-level}
+use Rattle.claims.proofs.Openings.{LoneWait, Answering, traced, sole-opener, opened-matches}
+use Rattle.claims.proofs.Bound.{records-bound}
+use Rattle.claims.proofs.Reachable.{Reachable, few-of, reachable-fresh, reachable-step}
+use Rattle.claims.proofs.Messages.{step-built}
 
 -- ---- the state behind a list
 record State (seed time : ℕ) (cs : List Call) (as′ : List Answer) (e : Engine) : Type 0 where

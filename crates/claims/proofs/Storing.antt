@@ -1,4 +1,4 @@
--- What rows can hold, and arrays that hold it: the inverse of the view (specs/Arrays). Rows cannot hold every `Held`: a text longer than its place, a number
+-- What rows can hold, and arrays that hold it: the inverse of the view (engine/specs/Arrays). Rows cannot hold every `Held`: a text longer than its place, a number
 -- wider than its type or an entry more than the table has no place. `Fits` says what can be held; `held-back`, that the arrays made of it hold just that.
 use mathlib.Core.Path.{_≡_, refl, sym, _∙_, ap}
 use mathlib.Core.Bool.{Bool, true, false, cond, not}

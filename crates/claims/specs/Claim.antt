@@ -1,5 +1,5 @@
 -- Demand 3, the statement: one claim about every list of calls (document 01, 'Engine and ledger'; proved in proofs/Demand3). `Claim`, at the end, says it.
--- It rests on the ledger (Ledger), on what the calls promise (Promises: `Begins`, `Answers`) and on the records and their bytes (Records, Layout).
+-- It rests on the ledger (Ledger), on what the calls promise (engine/specs/Promises: `Begins`, `Answers`) and on the records and their bytes (engine/specs: Records, Layout).
 -- A list is given the latest call first, so that the calls before one are the rest of the list. `In x l` says that x stands in l.
 use Prim.Native.Nat.{ℕ, suc, _+_, _≤_, _<_}
 use mathlib.Core.Path.{_≡_}
@@ -89,7 +89,7 @@ pub record Exact (seed time : ℕ) (cs : List Call) (c : Call) (outbox outbox′
   -- its counts are what the ledger adds in that call, its waiting the waits that the ledger then holds
   pub counts : countsOf (r .answer) ≡ entry (ledgerOf seed time cs) c .adds
   pub waiting : r .answer .waiting ≡ waitsIn (ledgerOf seed time (c ∷ cs) .names)
-  -- the outbox begins with its records, which are at most 120; the message of each is the built text (Layout, `textOf`)
+  -- the outbox begins with its records, which are at most 120; the message of each is the built text (engine/specs/Layout, `textOf`)
   pub bytes : outbox′ ≡ written rs outbox
   pub records : r .answer .records ≡ length rs
   pub bounded : length rs ≤ recordsMax

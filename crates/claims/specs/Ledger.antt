@@ -1,5 +1,5 @@
 -- The reply ledger of document 01, 'Engine and ledger'. It is fed the calls with their arguments alone and takes nothing from the engine's struct or answers.
--- What is held beside the names, and which calls are turned away, follow from the calls by the document's rules: `contextAfter` and `refusal`.
+-- What is held beside the names, and which calls are turned away, follow from the calls by the document's rules: `contextAfter` and `refusal` (engine/specs: Links, Refusals).
 use Prim.Native.Nat.{ℕ, zero, suc, _+_}
 use mathlib.Core.Bool.{Bool, true, false, cond, not, _&&_, _||_}
 use mathlib.Core.List.{List, [], _∷_, _++_, map}

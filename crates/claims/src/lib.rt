@@ -3,10 +3,11 @@ ghost use Prim.Native.Nat.{ℕ};
 ghost use mathlib.Core.Path.{_≡_};
 ghost use mathlib.Core.Bool.{true};
 ghost use mathlib.Core.List.{List};
+ghost use Rattle.message.specs.RoundTrip.{RoundTrip};
 ghost use Rattle.engine.specs.Calls.{Call};
 ghost use Rattle.engine.specs.Arrays.{Engine};
-ghost use Rattle.engine.specs.Claim.{Log, Claim};
-ghost use Rattle.engine.specs.EveryList.{Word, Lent, Logged};
+ghost use Rattle.claims.specs.Claim.{Log, Claim};
+ghost use Rattle.claims.specs.EveryList.{Word, Lent, Logged};
 ghost use Rattle.engine.specs.StarCases.{allHold, starCases};
 ghost use Rattle.engine.specs.declared.answer.Answer.{Answer};
 ghost use Rattle.engine.proofs.Contracts.{News, Gives};
@@ -14,7 +15,7 @@ ghost use Rattle.engine.proofs.Functions.{functions};
 ghost use Rattle.host.proofs.Exports.{exports};
 
 // Demand 3: it holds of every list of public calls, whatever their arguments, whose answers are what the functions' contracts give.
-// The claim itself is stated in engine/specs/Claim.antt.
+// The claim itself is stated in specs/Claim.antt.
 pub fn demand_three()
     ensures { λ _. ⌜ ((seed time : ℕ) (calls : List Call) (answers : List Answer) (last : Engine) (log : Log (News functions) (Gives functions) seed time calls answers last) → Claim log) ⌝ }
 {}
@@ -37,4 +38,9 @@ pub fn each_exported_has_a_log()
 // Document 01's ★ cases, one table.
 pub fn star_cases()
     ensures { λ _. ⌜ allHold starCases ≡ true ⌝ }
+{}
+
+// The round trip: what each of the four `build_*` writes, of any good texts, `parse` reads back to its kind and its fields (message/specs/RoundTrip.antt).
+pub fn round_trip()
+    ensures { λ _. ⌜ RoundTrip ⌝ }
 {}

@@ -1,4 +1,4 @@
--- What twelve functions that are lent the five arrays give by their contracts alone: the entries of a log (specs/Claim, `Log`). The engine's own functions are one such
+-- What twelve functions that are lent the five arrays give by their contracts alone: the entries of a log (crate claims, specs/Claim, `Log`). The engine's own functions are one such
 -- set (Functions), those that a host links another (crate host, proofs/Exports).
 -- The arrays are lent anew to each call: what ties two calls is that the contents before the one are the contents after the other. An array that is not lent is any
 -- list, and one that is lent to be read is the same before and after.

@@ -1,4 +1,4 @@
--- Laws that belong to no one function, a file for each subject; the claim about every list of calls is proved in Demand3 and EveryList.
+-- Laws that belong to no one function, a file for each subject. The claim about every list of calls is proved in crate claims, from what Contracts and Functions say of the calls.
 pub mod Parts
 pub mod Timer
 pub mod FlagBits
@@ -36,23 +36,8 @@ pub mod Heads
 pub mod Lending
 pub mod Answering
 pub mod Hearing
-pub mod LeafLaws
 pub mod Members
-pub mod Rows
 pub mod Accepted
-pub mod Agreement
-pub mod Balance
-pub mod Openings
-pub mod Ascending
-pub mod Orders
-pub mod Bound
-pub mod Reachable
-pub mod Messages
-pub mod Storing
-pub mod Ranges
-pub mod Demand3
-pub mod EveryList
 pub mod NothingDue
 pub mod Contracts
 pub mod Functions
-pub mod Certificate

@@ -1,4 +1,4 @@
--- The engine's definitions, a file for each subject, in the order of document 01; the reply ledger and the claim about every list of calls stand last.
+-- The engine's definitions, a file for each subject, in the order of document 01. The reply ledger and the claim about every list of calls stand in crate claims.
 pub mod Sizes
 pub mod Table
 pub mod Slots
@@ -23,13 +23,10 @@ pub mod Refusals
 pub mod Engine
 pub mod Tallies
 pub mod Telling
-pub mod Ledger
 pub mod Rows
 pub mod Shifts
 pub mod Wanted
 pub mod Arrays
 pub mod Changes
 pub mod Promises
-pub mod Claim
-pub mod EveryList
 pub mod StarCases

@@ -1,14 +1,8 @@
--- Demand 3 about the functions that a host links: a log whose entries are what their own contracts give a caller (`Learnt`, which Rattle makes of the source). They are
--- the contracts of the engine's functions to the letter, so that the claim and the logs of those (crate engine, proofs/Functions) are theirs as they stand.
-use Prim.Native.Nat.{ℕ}
-use mathlib.Core.List.{List}
-use Rattle.engine.specs.Calls.{Call}
-use Rattle.engine.specs.Arrays.{Engine}
-use Rattle.engine.specs.Claim.{Log, Claim}
-use Rattle.engine.specs.EveryList.{Word, Lent, Logged}
-use Rattle.engine.specs.declared.answer.Answer.{Answer}
-use Rattle.engine.proofs.Contracts.{Contracts, News, Gives}
-use Rattle.engine.proofs.Functions.{functions-claim, functions-logged}
+-- The functions that a host links, by their own contracts: what each gives whoever calls it (`Learnt`, which Rattle makes of the source). They are the contracts of the engine's
+-- functions to the letter, so that the claim about every list of those (crate claims) is about theirs too.
+use mathlib.Core.Path.{_≡_, refl}
+use Rattle.engine.proofs.Contracts.{Contracts}
+use Rattle.engine.proofs.Functions.{functions}
 use Rattle.host.proofs.exported.kohlsilk_lent_new.Reads as new
 use Rattle.host.proofs.exported.kohlsilk_lent_new_link.Reads as new-link
 use Rattle.host.proofs.exported.kohlsilk_lent_deleted_link.Reads as deleted-link
@@ -45,10 +39,5 @@ exports = record {
   reset = λ κs h h′ ns time r. reset.Learnt κs (h, (ns, (time, tt))) r (h′, (ns, (time, tt)));
 }
 
--- DEMAND 3, of every log of the exported functions' answers
-pub exports-claim : {seed time : ℕ} {cs : List Call} {as′ : List Answer} {e : Engine} → (l : Log (News exports) (Gives exports) seed time cs as′ e) → Claim l
-exports-claim l = functions-claim l
-
--- and each list has such a log
-pub exports-logged : (seed time : ℕ) → Word seed → (lent : List (Call × List ℕ)) → Lent lent → Logged (News exports) (Gives exports) seed time lent
-exports-logged = functions-logged
+pub exports-same : exports ≡ functions
+exports-same = refl

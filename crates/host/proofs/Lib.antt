@@ -1,3 +1,2 @@
--- The claims about lists of exported calls.
+-- The contracts of the exported calls.
 pub mod Exports
-pub mod Certificate

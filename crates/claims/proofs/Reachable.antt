@@ -10,27 +10,27 @@ use lib.ListN.{length, take, getD, length-append, length-map, length-take}
 use borrow.Author.Tests.{leb-false}
 use Rattle.text.specs.Bytes.{equal}
 use Rattle.message.specs.Build.{typeMax, nameMax}
 use Rattle.engine.specs.Sizes.{advertisementsMax, subscriptionsMax, linksMax, addressesMax, locationMax}
 use Rattle.engine.specs.Table.{known, enter}
 use Rattle.engine.specs.Flags.{isUp, isMulticast}
 use Rattle.engine.specs.Target.{ssdpAll, targetMatch}
 use Rattle.engine.specs.Delay.{delay}
 use Rattle.engine.specs.Held.{Text, Link, Context, Advertisement, Held, fresh, advertised, byIndex}
 use Rattle.engine.specs.Calls.{Call, NewLink, DeletedLink, NewAddress, DeletedAddress, Subscribe, Advertise, Deadvertise, Refresh, Datagram, Timeout, ResetTimer, Query, Act, Enters, Leaves, Asks, Ticks, acts}
 use Rattle.engine.specs.Links.{addressesOf, anyUp, contains, lastInto, isV4, addressOf, linkAt, stores, linkWith, linkNews, addressNews, addressGone, contextAfter}
 use Rattle.engine.specs.Records.{isDue}
 use Rattle.engine.specs.Replies.{sameSender, shared, askedNeed, askedAnswer, hits, asked, servedNeed, served, newcomer, result, results}
 use Rattle.engine.specs.Refusals.{Names, checks}
 use Rattle.engine.specs.Engine.{namesOf, turned, Step, accepted, unless, step}
 use Rattle.engine.specs.declared.advertisement.Endpoint.{Endpoint}
 use Rattle.engine.specs.declared.advertisement.ResponseNeeded.{ResponseNeeded}
 use Rattle.engine.specs.declared.advertisement.ResponseNeeded.the-variants.{None, Multicast, Unicast}
-use Rattle.engine.proofs.LeafLaws.{Laws}
+use Rattle.claims.proofs.LeafLaws.{Laws}
 use Rattle.engine.proofs.Members.{Each, nobody, both, each-append, each-map, each-enter, each-leave}
-use Rattle.engine.proofs.Ascending.{Ascending, empty, ascending-enter, ascending-leave, ascending-map, in-known, known-in, length-enter, length-enter-known, length-leave}
-use Rattle.engine.proofs.Orders.{by-name, by-number}
+use Rattle.claims.proofs.Ascending.{Ascending, empty, ascending-enter, ascending-leave, ascending-map, in-known, known-in, length-enter, length-enter-known, length-leave}
+use Rattle.claims.proofs.Orders.{by-name, by-number}
 use Rattle.engine.proofs.Accepted.{Passed, passed, Fits, fits-passed, Single, single, Brings, brings}
-use Rattle.engine.proofs.Bound.{Few, at-few}
+use Rattle.claims.proofs.Bound.{Few, at-few}
 
 -- the answer type of a reply that waits for one searcher
 abbrev pub AnswerFits : ResponseNeeded → Text → Type 0

@@ -1,4 +1,4 @@
--- What rows can hold, and arrays that hold it: the inverse of the view (specs/Arrays). Rows cannot hold every `Held`: a text longer than its place, a number
+-- What rows can hold, and arrays that hold it: the inverse of the view (engine/specs/Arrays). Rows cannot hold every `Held`: a text longer than its place, a number
 -- wider than its type or an entry more than the table has no place. `Fits` says what can be held; `held-back`, that the arrays made of it hold just that.
 use mathlib.Core.Path.{_≡_, refl, sym, _∙_, ap}
 use mathlib.Core.Bool.{Bool, true, false, cond, not}
@@ -10,16 +10,16 @@ use lib.Dec.{eqb}
 use lib.ListN.{length, take, drop, replicate, length-append, length-replicate}
 use lib.Seq.{take-at, drop-at, take-all}
 use Rattle.message.specs.Build.{typeMax, nameMax}
 use Rattle.engine.specs.Sizes.{addressesMax, locationMax}
 use Rattle.engine.specs.Rows.{rows}
 use Rattle.engine.specs.Held.{Text, Link, Context, Advertisement, Held, holding}
 use Rattle.engine.specs.Records.{flat}
 use Rattle.engine.specs.Arrays.{low32, seedIn, timerIn, linkWidth, linkNumbers, linkIn, linkRows, linksIn, searchWidth, searchBytes, searchIn, searchRows, searchesIn, numbersWidth, numbersSize, kindPlace, locationPlace, answerPlace, textsWidth, textsSize, replyOf, replyIn, entryIn, entries, namesIn, Engine, engine, held}
-use Rattle.engine.specs.EveryList.{Byte, Word, SenderFits, Sized}
+use Rattle.claims.specs.EveryList.{Byte, Word, SenderFits, Sized}
 use Rattle.engine.specs.declared.advertisement.ResponseNeeded.{ResponseNeeded}
 use Rattle.engine.specs.declared.advertisement.ResponseNeeded.the-variants.{None, Multicast, Unicast}
 use Rattle.engine.proofs.Members.{Each, nobody, both, each-as}
-use Rattle.engine.proofs.Reachable.{TextsFit, Reachable}
+use Rattle.claims.proofs.Reachable.{TextsFit, Reachable}
 
 -- ---- what rows can hold
 pub record Narrow (l : Link) : Type 0 where

@@ -11,27 +11,27 @@ use Rattle.message.specs.Parse.{parsed}
 use Rattle.message.specs.Build.{typeMax}
 use Rattle.message.specs.declared.Message.{Message}
 use Rattle.message.specs.declared.Message.the-variants.{Empty, Invalid, NotifyAlive, NotifyByeBye, Search, Response}
 use Rattle.engine.specs.Table.{known}
 use Rattle.engine.specs.Flags.{isMulticast, isUp}
 use Rattle.engine.specs.RefreshTimer.{period, timerNew, timerReset, timerStep}
 use Rattle.engine.specs.Target.{ssdpAll}
 use Rattle.engine.specs.Delay.{delay}
 use Rattle.engine.specs.Held.{Text, Link, Context, Advertisement, Held, fresh, advertised, byIndex}
 use Rattle.engine.specs.Calls.{Call, NewLink, DeletedLink, NewAddress, DeletedAddress, Subscribe, Advertise, Deadvertise, Refresh, Datagram, Timeout, ResetTimer, Query, Act, Enters, Leaves, Asks, Ticks, asks, acts}
 use Rattle.engine.specs.Links.{addressesOf, anyUp, lastInto, isV4, addressOf, linkAt, stores, linkWith, linkNews, addressNews, addressGone, contextAfter}
 use Rattle.engine.specs.Records.{isDue}
 use Rattle.engine.specs.Replies.{sameSender, shared, askedNeed, askedAnswer, hits, asked, servedNeed, served, newcomer, result, results}
 use Rattle.engine.specs.Engine.{turned, accepted}
-use Rattle.engine.specs.EveryList.{Byte, Word, SenderFits, InRange}
+use Rattle.claims.specs.EveryList.{Byte, Word, SenderFits, InRange}
 use Rattle.engine.specs.declared.advertisement.Endpoint.{Endpoint}
 use Rattle.engine.specs.declared.advertisement.ResponseNeeded.{ResponseNeeded}
 use Rattle.engine.specs.declared.advertisement.ResponseNeeded.the-variants.{None, Multicast, Unicast}
 use Rattle.engine.specs.declared.refresh_timer.RefreshTimer.{RefreshTimer}
-use Rattle.engine.proofs.LeafLaws.{laws}
+use Rattle.claims.proofs.LeafLaws.{laws}
 use Rattle.engine.proofs.Members.{Each, nobody, both, each-by, each-cond, each-append, each-map, each-enter, each-leave, each-entry}
 use Rattle.engine.proofs.Accepted.{Single, single, Brings, brings}
-use Rattle.engine.proofs.Reachable.{TextsFit, reachable-fresh, accepted-reachable}
-use Rattle.engine.proofs.Storing.{Narrow, ReplyFits, Answerable, Ranged, Fits, each-both}
+use Rattle.claims.proofs.Reachable.{TextsFit, reachable-fresh, accepted-reachable}
+use Rattle.claims.proofs.Storing.{Narrow, ReplyFits, Answerable, Ranged, Fits, each-both}
 
 -- ---- addresses
 byte-at : (l : List ℕ) → Each Byte l → (i : ℕ) → Byte (getD l i 0)

@@ -1,6 +1,6 @@
 -- Demand 3, proved (specs/Claim states it): by induction over the list, the engine agrees with the ledger, and the engine is reachable.
 -- It holds of every log whose `new` and calls gave what `Begins` and `Answers` say, whatever relation the log cites for that.
-use mathlib.Core.Path.{_≡_, refl, sym, _∙_, ap, subst}
+use mathlib.Core.Path.{_≡_, refl, sym, _∙_, ap, ap₂, subst}
 use mathlib.Core.Bool.{Bool, true, false, cond}
 use mathlib.Core.List.{List, [], _∷_, _++_, map, List·Memᴰ as In, Forall₂·nil as no-rows}
 use mathlib.Core.Option.{some}
@@ -8,29 +8,29 @@ use Prim.Native.Nat.{ℕ, zero, suc, _≤_}
 use native.Mathlib.Omega.{arith}
 use lib.ListN.{length}
 use borrow.Author.Tests.{leb-false}
 use Rattle.engine.specs.Sizes.{recordsMax}
 use Rattle.engine.specs.Held.{Context, Advertisement, Held, fresh}
 use Rattle.engine.specs.Calls.{Call, Timeout, acts}
 use Rattle.engine.specs.Links.{upAddresses}
-use Rattle.engine.specs.Records.{Record, isDue, refreshRecords, salvoDue, records}
+use Rattle.engine.specs.Records.{Record, isDue, flat, searchesOf, searchOn, refreshRecords, salvoDue, records}
 use Rattle.engine.specs.Replies.{sumOf, waiting, servedNeed, served, result, results}
 use Rattle.engine.specs.Refusals.{late, newRefusal}
 use Rattle.engine.specs.Engine.{turned, Step, accepted, unless, step, newStep}
 use Rattle.engine.specs.Arrays.{Engine, held}
 use Rattle.engine.specs.Promises.{Answered, Answers, Begins}
-use Rattle.engine.specs.Ledger.{Wait, Name, waitsIn, Ledger, entry, ledgerOf, sumsOf, ledgerRecords}
-use Rattle.engine.specs.Claim.{Log, new, call, countsOf, total, lastWaiting, After, timeoutRecords, Lone, Serves, Exact, Every, Claim}
+use Rattle.claims.specs.Ledger.{Wait, Name, waitsIn, Ledger, entry, ledgerOf, sumsOf, ledgerRefresh}
+use Rattle.claims.specs.Claim.{Log, new, call, countsOf, total, lastWaiting, After, timeoutRecords, Lone, Serves, Exact, Every, Claim}
 use Rattle.engine.specs.declared.advertisement.ResponseNeeded.{ResponseNeeded}
 use Rattle.engine.specs.declared.advertisement.ResponseNeeded.the-variants.{None, Multicast, Unicast}
 use Rattle.engine.specs.declared.answer.Answer.{Answer}
-use Rattle.engine.proofs.LeafLaws.{Laws}
+use Rattle.claims.proofs.LeafLaws.{Laws}
 use Rattle.engine.proofs.Members.{Each, nobody, both, each-at}
-use Rattle.engine.proofs.Agreement.{Agree, SameCounts, no-counts, plus-same, same-counts, step-same, turned-same, served-same}
-use Rattle.engine.proofs.Balance.{ledger-level}
-use Rattle.engine.proofs.Openings.{LoneWait, Answering, traced, opened-matches}
-use Rattle.engine.proofs.Bound.{records-bound}
-use Rattle.engine.proofs.Reachable.{Reachable, few-of, reachable-fresh, reachable-step}
-use Rattle.engine.proofs.Messages.{step-built}
+use Rattle.claims.proofs.Agreement.{Table, Agree, SameCounts, no-counts, plus-same, same-counts, step-same, turned-same, announced-same, served-same}
+use Rattle.claims.proofs.Balance.{ledger-level}
+use Rattle.claims.proofs.Openings.{LoneWait, Answering, traced, sole-opener, opened-matches}
+use Rattle.claims.proofs.Bound.{records-bound}
+use Rattle.claims.proofs.Reachable.{Reachable, few-of, reachable-fresh, reachable-step}
+use Rattle.claims.proofs.Messages.{step-built}
 
 -- ---- the state behind a list
 record State (seed time : ℕ) (cs : List Call) (as′ : List Answer) (e : Engine) : Type 0 where
@@ -145,13 +145,17 @@ unfolding served
 all-after now [] = nobody
 all-after now (a ∷ as′) = both (served-after (isDue now (a .needed)) now (a .needed) refl) (all-after now as′)
 
--- and its records are the refresh records, if the salvo is due, then those of the ledger's waits
-sent-same : (now room : ℕ) (h : Held) (l : Ledger) → Agree h l → records (h .context) (h .advertisements) (Timeout now room) ≡ timeoutRecords l (h .advertisements) now
-unfolding records
-sent-same now room h l a =
-    ap (λ (rs : List Record). cond (salvoDue (h .context) now) (refreshRecords (h .context) (h .advertisements)) [] ++ rs)
-    (served-same now (upAddresses (h .context .links)) (a .table) .sent)
-    ∙ ap (λ (x : Context). cond (salvoDue x now) (refreshRecords x (h .advertisements)) [] ++ ledgerRecords now (upAddresses (x .links)) (l .names)) (a .context)
+-- and its records are the ledger's: the refresh records, if the salvo is due, then those of the waits
+sent-at : (now room : ℕ) (x : Context) {as′ : List Advertisement} {ns : List Name} → Table as′ ns →
+    records x as′ (Timeout now room) ≡ timeoutRecords (record { context = x; names = ns }) now
+unfolding records refreshRecords ledgerRefresh
+sent-at now room x t =
+    let up = upAddresses (x .links) in
+    ap₂ (λ (as′ rs : List Record). cond (salvoDue x now) (as′ ++ flat (searchOn up) (searchesOf (x .subscriptions))) [] ++ rs)
+    (announced-same up t) (served-same now up t .sent)
+
+sent-same : (now room : ℕ) (h : Held) (l : Ledger) → Agree h l → records (h .context) (h .advertisements) (Timeout now room) ≡ timeoutRecords l now
+sent-same now room h l a = sent-at now room (h .context) (a .table) ∙ ap (λ (x : Context). timeoutRecords (record { context = x; names = l .names }) now) (a .context)
 
 accepted-timeout : (now room : ℕ) (h : Held) → accepted h (Timeout now room) .after .advertisements ≡ map (served now) (h .advertisements)
 unfolding accepted acts results result
@@ -160,16 +164,17 @@ accepted-timeout now room h = refl
 -- a lone reply
 lone : Laws → (seed time : ℕ) (cs : List Call) (n : Name) (w : Wait) → In n (ledgerOf seed time cs .names) → n .wait ≡ some w → w .group ≡ false → Lone seed time cs n w
 lone laws seed time cs n w i e g =
-    let o = each-at (traced seed time cs) n i (subst LoneWait (sym e) g) in
+    let o = each-at (traced seed time cs) n i i (subst LoneWait (sym e) g) in
     record {
       reply = rw (e, g);
       opening = o;
+      sole = λ p. sole-opener seed time p o refl;
       matching = subst (Answering (n .kind)) e (opened-matches laws seed time o);
     }
 
 serves : Laws → (seed time : ℕ) (cs : List Call) (now room : ℕ) (e : Engine) {outbox outbox′ : List ℕ} (r : Answered) →
     Answers e (Timeout now room) outbox outbox′ r → Agree (held e) (ledgerOf seed time cs) → r .answer .refusal ≡ 0 →
-    Serves seed time cs now e r (step (held e) (Timeout now room) .sent)
+    Serves seed time cs now r (step (held e) (Timeout now room) .sent)
 unfolding accepted
 serves laws seed time cs now room e r d a z =
     let k : turned (held e) (Timeout now room) ≡ 0 =
@@ -185,7 +190,7 @@ serves laws seed time cs now room e r d a z =
 
 -- ---- each call
 exact : Laws → (seed time : ℕ) (cs : List Call) (c : Call) (e : Engine) (outbox outbox′ : List ℕ) (r : Answered) →
-    Answers e c outbox outbox′ r → Agree (held e) (ledgerOf seed time cs) → Reachable (held e) → Exact seed time cs c e outbox outbox′ r (step (held e) c .sent)
+    Answers e c outbox outbox′ r → Agree (held e) (ledgerOf seed time cs) → Reachable (held e) → Exact seed time cs c outbox outbox′ r (step (held e) c .sent)
 exact laws seed time cs c e outbox outbox′ r d a g =
     let n = next seed time cs c e r a d in
     record {
@@ -197,7 +202,7 @@ exact laws seed time cs c e outbox outbox′ r d a g =
       bounded = step-bound (held e) c g;
       messages = each-at (step-built laws (held e) c g);
       serves = λ now room p z.
-          subst (λ (x : Call). Serves seed time cs now e r (step (held e) x .sent)) (sym p)
+          subst (λ (x : Call). Serves seed time cs now r (step (held e) x .sent)) (sym p)
           (serves laws seed time cs now room e r (subst (λ (x : Call). Answers e x outbox outbox′ r) p d) a z);
     }
 

@@ -8,22 +8,22 @@ use mathlib.Core.Option.{Option, none, some}
 use Prim.Native.Nat.{ℕ, zero, suc, _+_}
 use native.Mathlib.Omega.{arith}
 use Rattle.text.specs.Bytes.{equal, order}
 use Rattle.engine.specs.Sizes.{outboxSize}
 use Rattle.engine.specs.Table.{entryOf}
 use Rattle.engine.specs.Target.{targetMatch}
 use Rattle.engine.specs.Delay.{delay}
 use Rattle.engine.specs.Held.{Text, Advertisement, Context, Held, isLess, advertised}
 use Rattle.engine.specs.Calls.{Call, Query, Act, Enters, Leaves, Asks, Ticks, acts, Counts, zeros, plus}
-use Rattle.engine.specs.Records.{isDue, replyRecords, dueRecords, flat}
+use Rattle.engine.specs.Records.{isDue, notifyOn, replyRecords, dueRecords, flat}
 use Rattle.engine.specs.Replies.{sumOf, one, waits, waiting, sameSender, shared, askedNeed, askedAnswer, asked, matchedBy, joinedBy, servedNeed, served, isAlone, isGroup, aloneAt, groupAt, Result, newcomer, result, results}
 use Rattle.engine.specs.Refusals.{Names, refusal}
 use Rattle.engine.specs.Engine.{namesOf, turned, Step, accepted, unless, step}
-use Rattle.engine.specs.Ledger.{Wait, Name, named, withWait, waitCount, waitsIn, joined, searched, dueAt, timedOut, Turn, each, turn, turns, Ledger, refusalIn, Entry, entered, ifAccepted, entry, repliesTo, ledgerRecords}
-use Rattle.engine.specs.Claim.{countsOf}
+use Rattle.claims.specs.Ledger.{Wait, Name, named, withWait, waitCount, waitsIn, joined, searched, dueAt, timedOut, Turn, each, turn, turns, Ledger, refusalIn, Entry, entered, ifAccepted, entry, announced, repliesTo, ledgerRecords}
+use Rattle.claims.specs.Claim.{countsOf}
 use Rattle.engine.specs.declared.advertisement.Endpoint.{Endpoint}
 use Rattle.engine.specs.declared.advertisement.ResponseNeeded.{ResponseNeeded}
 use Rattle.engine.specs.declared.advertisement.ResponseNeeded.the-variants.{None, Multicast, Unicast}
-use Rattle.engine.proofs.Rows.{rows-length, rows-known, rows-entry, rows-leave, rows-enter}
+use Rattle.claims.proofs.Rows.{rows-length, rows-known, rows-entry, rows-leave, rows-enter}
 
 -- a wait, and a waiting reply with the answer type beside it
 abbrev pub Alike : ResponseNeeded → Text → Option Wait → Type 0
@@ -239,6 +239,12 @@ served-same now up (row {a = a} {b = n} h t) =
       dropped = omega (arith, i .dropped, r .dropped);
       sent = rw e (cc (i .sent, r .sent));
     }
+
+-- ---- a refresh: what the engine announces of its advertisements is what the ledger does of its names
+pub announced-same : (up : List ℕ) {as′ : List Advertisement} {ns : List Name} → Table as′ ns → flat (notifyOn up) as′ ≡ flat (announced up) ns
+unfolding flat
+announced-same up nil = refl
+announced-same up (row h t) = rw (h .name, h .kind, h .location, announced-same up t)
 
 -- ---- an act: the engine's result and the ledger's turn
 record Agrees (s : Result) (t : Turn) : Type 0 where

@@ -9,8 +9,8 @@ use borrow.Author.Tests.{ltb-true, ltb-false, lt-ltb, le-ltb, eqb-true, eqb-fals
 use Rattle.text.specs.Bytes.{order, equal}
 use Rattle.text.proofs.Comparing.{equal-is, equal-refl}
 use Rattle.text.specs.declared.bytes.Ordering.the-variants.{Less, Greater}
 use Rattle.engine.specs.Held.{Text, isLess}
-use Rattle.engine.proofs.Ascending.{StrictOrder}
+use Rattle.claims.proofs.Ascending.{StrictOrder}
 
 -- ---- numbers
 pub by-number : StrictOrder ltb eqb

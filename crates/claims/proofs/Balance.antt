@@ -5,11 +5,11 @@ use mathlib.Core.List.{List, [], _∷_}
 use mathlib.Core.Option.{Option, none, some}
 use Prim.Native.Nat.{ℕ, zero, suc, _+_}
 use native.Mathlib.Omega.{arith}
 use Rattle.engine.specs.Table.{entryOf, enter, leave}
 use Rattle.engine.specs.Target.{targetMatch}
 use Rattle.engine.specs.Held.{Text}
 use Rattle.engine.specs.Calls.{Call, Query, Act, Enters, Leaves, Asks, Ticks, acts, Counts}
-use Rattle.engine.specs.Ledger.{Wait, Name, named, waitCount, waitsIn, Change, searched, dueAt, sentTo, timedOut, each, turn, turns, Ledger, refusalIn, Entry, entered, ifAccepted, entry, ledgerOf, sumsOf}
+use Rattle.claims.specs.Ledger.{Wait, Name, named, waitCount, waitsIn, Change, searched, dueAt, sentTo, timedOut, each, turn, turns, Ledger, refusalIn, Entry, entered, ifAccepted, entry, ledgerOf, sumsOf}
 
 abbrev pub Level : ℕ → Counts → ℕ → Type 0
 Level before c after = c .matched + before ≡ c .joined + c .alone + c .group + c .dropped + after

@@ -8,23 +8,23 @@ use Rattle.text.specs.Bytes.{equal}
 use Rattle.text.proofs.Comparing.{equal-is}
 use Rattle.message.specs.Build.{typeMax, nameMax, buildLocationMax}
 use Rattle.message.proofs.Sending.{AllFit, none, and, sent-message}
 use Rattle.engine.specs.Sizes.{locationMax}
 use Rattle.engine.specs.Target.{ssdpAll}
 use Rattle.engine.specs.Location.{rewritten}
 use Rattle.engine.specs.Held.{Text, Context, Advertisement, Held, advertised}
 use Rattle.engine.specs.Calls.{Call, NewLink, DeletedLink, NewAddress, DeletedAddress, Subscribe, Advertise, Deadvertise, Refresh, Datagram, Timeout, ResetTimer}
 use Rattle.engine.specs.Links.{addressesOf, anyUp, upAddresses, addressOf, linkAt, stores}
 use Rattle.engine.specs.Records.{Record, SearchFrom, NotifyFrom, ByeByeFrom, ResponseFrom, flat, anyAll, searchesOf, notify, searchOn, notifyOn, refreshRecords, addressRecords, replyRecords, isDue, dueRecords, salvoDue, turnsUp, records}
 use Rattle.engine.specs.Layout.{textsOf, textOf, messageOf}
 use Rattle.engine.specs.Refusals.{checks}
 use Rattle.engine.specs.Engine.{namesOf, turned, Step, accepted, unless, step}
 use Rattle.engine.specs.declared.advertisement.Endpoint.{Endpoint}
 use Rattle.engine.specs.declared.advertisement.ResponseNeeded.{ResponseNeeded}
 use Rattle.engine.specs.declared.advertisement.ResponseNeeded.the-variants.{None, Multicast, Unicast}
-use Rattle.engine.proofs.LeafLaws.{Laws}
+use Rattle.claims.proofs.LeafLaws.{Laws}
 use Rattle.engine.proofs.Members.{Each, nobody, both, each-cond, each-append, each-map, each-flat, each-entry}
 use Rattle.engine.proofs.Accepted.{Passed, passed, Fits, fits-passed, three-fit}
-use Rattle.engine.proofs.Reachable.{AnswerFits, TextsFit, Listed, Subscribed, Reachable}
+use Rattle.claims.proofs.Reachable.{AnswerFits, TextsFit, Listed, Subscribed, Reachable}
 
 abbrev pub Built : Record → Type 0
 Built m = messageOf m ≡ textOf m

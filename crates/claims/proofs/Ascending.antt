@@ -1,13 +1,13 @@
 -- A table that is strictly ascending in its key stays so, whatever enters or leaves; in such a table `known` is membership. How long it gets.
 -- The order is any strict total one; names in byte order and links by index are the two in use.
 use mathlib.Core.Path.{_≡_, refl, sym, _∙_, ap, subst}
-use mathlib.Core.Bool.{Bool, true, false, cond, false≢true}
+use mathlib.Core.Bool.{Bool, true, false, cond, true≢false, false≢true}
 use mathlib.Core.List.{List, [], _∷_, map, List·Memᴰ as In, List·Memᴰ·head as first, List·Memᴰ·tail as after}
 use Prim.Native.Nat.{suc, _≤_, suc-le-suc}
 use native.Mathlib.Omega.{arith}
 use lib.ListN.{length}
 use Rattle.engine.specs.Table.{Key, known, enter, leave}
 use Rattle.engine.proofs.Members.{Each, nobody, both, each-at, each-as, each-enter, each-leave}
 
 pub record StrictOrder {K : Type 0} (below same : K → K → Bool) : Type 0 where
   pub irreflexive : (x : K) → below x x ≡ false
@@ -88,6 +88,16 @@ module _ {K A : Type 0} (k : Key K A) (o : StrictOrder (k .below) (k .same)) whe
   in-known (under {a = b} {l = l} u h) a (first e) =
       rw (e, o .irreflexive (k .of b), o .same-refl (k .of b))
   in-known (under {a = b} {l = l} u h) a (after i) = rw (each-at u a i) (in-known h a i)
+
+  -- of two members with one key each is the other
+  apart : (a b c : A) → k .of a ≡ k .of b → c ≡ a → k .below (k .of c) (k .of b) ≡ true → ⊥
+  apart a b c s e u = true≢false (sym u ∙ ap (λ (x : K). k .below x (k .of b)) (ap (k .of) e ∙ s) ∙ o .irreflexive (k .of b))
+
+  pub in-one : {l : List A} → Ascending k l → (a b : A) → In a l → In b l → k .of a ≡ k .of b → a ≡ b
+  in-one (under u h) a b (first e) (first f) s = e ∙ sym f
+  in-one (under {a = c} u h) a b (first e) (after j) s = absurd (apart a b c s (sym e) (each-at u b j))
+  in-one (under {a = c} u h) a b (after i) (first f) s = absurd (apart b a c (sym s) (sym f) (each-at u a i))
+  in-one (under u h) a b (after i) (after j) s = in-one h a b i j s
 
   -- and what is known is a member
   pub known-in : (x : K) (l : List A) → known k x l ≡ true → (a : A) × In a l × (k .of a ≡ x)

@@ -8,23 +8,23 @@ use lib.ListN.{length, take, drop, length-map}
 use Rattle.message.specs.Parse.{parsed}
 use Rattle.message.specs.declared.Message.{Message}
 use Rattle.message.specs.declared.Message.the-variants.{Empty, Invalid, NotifyAlive, NotifyByeBye, Search, Response}
 use Rattle.engine.specs.Rows.{rows}
 use Rattle.engine.specs.Held.{Text, Link, Advertisement, Held, holding, fresh}
 use Rattle.engine.specs.Calls.{Call, NewLink, DeletedLink, NewAddress, DeletedAddress, Subscribe, Advertise, Deadvertise, Refresh, Datagram, Timeout, ResetTimer, asks, acts, Counts, zeros}
 use Rattle.engine.specs.Links.{contextAfter}
 use Rattle.engine.specs.Records.{flat, records}
 use Rattle.engine.specs.Layout.{layout, written}
 use Rattle.engine.specs.Replies.{sumOf, waits, waiting, sooner, soonest, served, result, results}
 use Rattle.engine.specs.Refusals.{checks, refusal, newRefusal}
 use Rattle.engine.specs.Engine.{namesOf, turned, poll, Told, tells, Step, answerWith, refusedBy, accepted, unless, step, newStep}
 use Rattle.engine.specs.Arrays.{numbersWidth, textsWidth, linkRows, searchRows, replyIn, entryIn, entries, Engine, engine, held}
 use Rattle.engine.specs.Promises.{Answers, Begins, Answered, answered}
-use Rattle.engine.specs.Claim.{Log, new, call}
-use Rattle.engine.specs.EveryList.{Word, SenderFits, InRange, Lends, Lent, outboxesOf, SizedIn, Logged}
+use Rattle.claims.specs.Claim.{Log, new, call}
+use Rattle.claims.specs.EveryList.{Word, SenderFits, InRange, Lends, Lent, outboxesOf, SizedIn, Logged}
 use Rattle.engine.specs.declared.advertisement.Endpoint.{Endpoint}
 use Rattle.engine.specs.declared.answer.Answer.{Answer}
-use Rattle.engine.proofs.Storing.{Fits, headOf, linkArray, searchArray, numberArray, textArray, engineOf, head-back, links-back, searches-back, names-back, held-back, all-sized, texts-kept}
-use Rattle.engine.proofs.Ranges.{fits-fresh, fits-accepted}
+use Rattle.claims.proofs.Storing.{Fits, headOf, linkArray, searchArray, numberArray, textArray, engineOf, head-back, links-back, searches-back, names-back, held-back, all-sized, texts-kept}
+use Rattle.claims.proofs.Ranges.{fits-fresh, fits-accepted}
 
 -- ---- what a set of functions gives: each call, on any contents of the arrays that are lent to it, whenever its contract is met
 pub record Given (New : ℕ → ℕ → Answered → Type 0) (Gives : Engine → Call → List ℕ → List ℕ → Answered → Type 0) : Type 0 where

@@ -3,12 +3,12 @@ use Prim.Native.Nat.{ℕ, _<_}
 use mathlib.Core.Path.{_≡_}
 use mathlib.Core.List.{List, [], _∷_, map, List·Memᴰ as In}
 use lib.ListN.{length}
 use Rattle.engine.specs.Calls.{Call, NewLink, DeletedLink, NewAddress, DeletedAddress, Subscribe, Advertise, Deadvertise, Refresh, Datagram, Timeout, ResetTimer}
 use Rattle.engine.specs.Arrays.{headPlaces, linkNumbers, searchBytes, numbersSize, textsSize, Engine}
 use Rattle.engine.specs.Promises.{Answered}
-use Rattle.engine.specs.Claim.{Log, new, call}
+use Rattle.claims.specs.Claim.{Log, new, call}
 use Rattle.engine.specs.declared.advertisement.Endpoint.{Endpoint}
 use Rattle.engine.specs.declared.answer.Answer.{Answer}
 
 -- numbers in the range of their types: u8, u16, u32
 abbrev pub Byte : ℕ → Type 0

@@ -1,23 +1,23 @@
 -- The reply ledger of document 01, 'Engine and ledger'. It is fed the calls with their arguments alone and takes nothing from the engine's struct or answers.
--- What is held beside the names, and which calls are turned away, follow from the calls by the document's rules: `contextAfter` and `refusal`.
+-- What is held beside the names, and which calls are turned away, follow from the calls by the document's rules: `contextAfter` and `refusal` (engine/specs: Links, Refusals).
 use Prim.Native.Nat.{ℕ, zero, suc, _+_}
 use mathlib.Core.Bool.{Bool, true, false, cond, not, _&&_, _||_}
-use mathlib.Core.List.{List, [], _∷_, map}
+use mathlib.Core.List.{List, [], _∷_, _++_, map}
 use mathlib.Core.Option.{Option, none, some}
 use lib.Dec.{leb, eqb}
 use lib.ListN.{length}
 use Rattle.text.specs.Bytes.{equal}
 use Rattle.engine.specs.Sizes.{outboxSize}
 use Rattle.engine.specs.Table.{Key, known, entryOf, enter, leave}
 use Rattle.engine.specs.RefreshTimer.{timerNew}
 use Rattle.engine.specs.Target.{ssdpAll, targetMatch}
 use Rattle.engine.specs.Delay.{delay}
 use Rattle.engine.specs.Held.{Text, Context, byName}
 use Rattle.engine.specs.Calls.{Call, Query, Act, Enters, Leaves, Asks, Ticks, acts, Counts, zeros, plus}
-use Rattle.engine.specs.Links.{contextAfter}
-use Rattle.engine.specs.Records.{Record, NotifyFrom, ResponseFrom, flat}
+use Rattle.engine.specs.Links.{upAddresses, contextAfter}
+use Rattle.engine.specs.Records.{Record, NotifyFrom, ResponseFrom, flat, searchesOf, searchOn}
 use Rattle.engine.specs.Refusals.{late, refusal}
 use Rattle.engine.specs.declared.advertisement.Endpoint.{Endpoint}
 
 -- a wait: its due instant, sender, receiving address and answer type, and whether it goes to the group
 pub record Wait : Type 0 where
@@ -171,14 +171,23 @@ unfoldable pub sumsOf : ℕ → ℕ → List Call → Counts
 sumsOf seed time [] = zeros
 sumsOf seed time (c ∷ cs) = plus (entry (ledgerOf seed time cs) c .adds) (sumsOf seed time cs)
 
--- ---- the records of a wait that ends: exactly one for a lone reply, one from each address on an up link for a reply to the group
+-- ---- what the ledger sends
+-- a name's notify, from each of these addresses
+abbrev pub announced : List ℕ → Name → List Record
+announced up n = map (λ source. NotifyFrom source (n .kind) (n .name) (n .location)) up
+
+-- the refresh records: all names, then the searches, from each address on an up link
+unfoldable pub ledgerRefresh : Context → List Name → List Record
+ledgerRefresh x ns =
+    flat (announced (upAddresses (x .links))) ns ++ flat (searchOn (upAddresses (x .links))) (searchesOf (x .subscriptions))
+
+-- the records of a wait that ends: exactly one for a lone reply, one from each address on an up link for a reply to the group
 abbrev pub loneReply : Name → Wait → Record
 loneReply n w = ResponseFrom (w .receiver) (w .sender) (w .answer) (n .name) (n .location)
 
 abbrev pub repliesTo : List ℕ → Name → Option Wait → List Record
 repliesTo up n none = []
-repliesTo up n (some w) =
-    cond (w .group) (map (λ source. NotifyFrom source (n .kind) (n .name) (n .location)) up) (loneReply n w ∷ [])
+repliesTo up n (some w) = cond (w .group) (announced up n) (loneReply n w ∷ [])
 
 -- those that a handle_timeout sends for the waits that it ends, in byte order of name
 unfoldable pub ledgerRecords : ℕ → List ℕ → List Name → List Record

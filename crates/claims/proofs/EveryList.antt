@@ -3,11 +3,12 @@
 -- an array answers the same whatever stands there; that is what `Given` asks for of a set of functions, and the functions' contracts give it.
 use mathlib.Core.Path.{_≡_, refl, sym, _∙_, ap, subst}
 use mathlib.Core.List.{List, [], _∷_, map}
+use mathlib.Core.Option.{Option, none, some}
 use Prim.Native.Nat.{ℕ, zero, suc, _+_}
 use lib.ListN.{length, take, drop, length-map}
 use Rattle.message.specs.Parse.{parsed}
 use Rattle.message.specs.declared.Message.{Message}
-use Rattle.message.specs.declared.Message.the-variants.{Empty, Invalid, NotifyAlive, NotifyByeBye, Search, Response}
+use Rattle.message.specs.declared.Message.the-variants.{NotifyAlive, NotifyByeBye, Search, Response}
 use Rattle.engine.specs.Rows.{rows}
 use Rattle.engine.specs.Held.{Text, Link, Advertisement, Held, holding, fresh}
 use Rattle.engine.specs.Calls.{Call, NewLink, DeletedLink, NewAddress, DeletedAddress, Subscribe, Advertise, Deadvertise, Refresh, Datagram, Timeout, ResetTimer, asks, acts, Counts, zeros}
@@ -172,15 +173,14 @@ module _ (h : Held) (f : Fits h) where
   soonest-on t texts = sym (ap (soonest t) (names-back h f)) ∙ soonest-same (length (h .advertisements)) t N T texts
 
 -- a datagram brings no name and takes none
-asked-length : (seed : ℕ) (as′ : List Advertisement) (time : ℕ) (sender : Endpoint) (receiver : ℕ) (s : List ℕ) (m : Message) →
+asked-length : (seed : ℕ) (as′ : List Advertisement) (time : ℕ) (sender : Endpoint) (receiver : ℕ) (s : List ℕ) (m : Option Message) →
     length (results seed as′ (asks time sender receiver s m) .advertisements) ≡ length as′
 unfolding results result
-asked-length seed as′ time sender receiver s Empty = refl
-asked-length seed as′ time sender receiver s Invalid = refl
-asked-length seed as′ time sender receiver s (NotifyAlive nt usn l) = refl
-asked-length seed as′ time sender receiver s (NotifyByeBye nt usn) = refl
-asked-length seed as′ time sender receiver s (Search st mx) = length-map as′ _
-asked-length seed as′ time sender receiver s (Response st usn l) = refl
+asked-length seed as′ time sender receiver s none = refl
+asked-length seed as′ time sender receiver s (some (NotifyAlive nt usn l)) = refl
+asked-length seed as′ time sender receiver s (some (NotifyByeBye nt usn)) = refl
+asked-length seed as′ time sender receiver s (some (Search st mx)) = length-map as′ _
+asked-length seed as′ time sender receiver s (some (Response st usn l)) = refl
 
 -- a call that has an answer: what is held after it, the outbox, and that the functions give it
 pub record Stepped (Gives : Engine → Call → List ℕ → List ℕ → Answered → Type 0) (h : Held) (c : Call) (outbox : List ℕ) : Type 0 where
@@ -366,7 +366,7 @@ module _ {New : ℕ → ℕ → Answered → Type 0} {Gives : Engine → Call �
         let r = accepted h c .answer in
         let same : headOf h′ ≡ headOf h =
         ap (λ (n : ℕ). h .context .seed ∷ h .context .timer .«next_salvo» ∷ h .context .timer .phase ∷ n ∷ length (h .context .links) ∷ length (h .context .subscriptions) ∷ [])
-        (asked-length (h .context .seed) (h .advertisements) time sender receiver d (parsed d)) in
+        (asked-length (h .context .seed) (h .advertisements) time sender receiver d (parsed d .message)) in
         let after : List ℕ → List ℕ → Engine = λ head links. engine head links (S h f) (numberArray (h′ .advertisements)) (textArray (h′ .advertisements)) in
         cases h f c [] i
         (λ e f′. subst (λ (head : List ℕ). Gives (engineOf h) c [] [] (answered (after head (L h f)) r)) (sym same)

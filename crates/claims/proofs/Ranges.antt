@@ -2,6 +2,7 @@
 use mathlib.Core.Path.{_≡_, refl}
 use mathlib.Core.Bool.{Bool, true, false, cond, _&&_}
 use mathlib.Core.List.{List, [], _∷_, _++_}
+use mathlib.Core.Option.{Option, none, some}
 use Prim.Native.Nat.{ℕ, zero, suc, _+_, _-_, _%_, _≤_}
 use native.Mathlib.Omega.{arith}
 use lib.Dec.{eqb, ltb}
@@ -10,7 +11,7 @@ use Rattle.text.specs.Bytes.{equal}
 use Rattle.message.specs.Parse.{parsed}
 use Rattle.message.specs.Build.{typeMax}
 use Rattle.message.specs.declared.Message.{Message}
-use Rattle.message.specs.declared.Message.the-variants.{Empty, Invalid, NotifyAlive, NotifyByeBye, Search, Response}
+use Rattle.message.specs.declared.Message.the-variants.{NotifyAlive, NotifyByeBye, Search, Response}
 use Rattle.engine.specs.Table.{known}
 use Rattle.engine.specs.Flags.{isMulticast, isUp}
 use Rattle.engine.specs.RefreshTimer.{period, timerNew, timerReset, timerStep}
@@ -119,13 +120,12 @@ ActFits (Leaves name) = Unit {0}
 ActFits (Asks q) = SenderFits (q .sender) (q .receiver)
 ActFits (Ticks time) = Unit {0}
 
-asks-fit : (time : ℕ) (sender : Endpoint) (receiver : ℕ) (s : List ℕ) (m : Message) → SenderFits sender receiver → Each ActFits (asks time sender receiver s m)
-asks-fit time sender receiver s Empty h = nobody
-asks-fit time sender receiver s Invalid h = nobody
-asks-fit time sender receiver s (NotifyAlive nt usn l) h = nobody
-asks-fit time sender receiver s (NotifyByeBye nt usn) h = nobody
-asks-fit time sender receiver s (Search st mx) h = both h nobody
-asks-fit time sender receiver s (Response st usn l) h = nobody
+asks-fit : (time : ℕ) (sender : Endpoint) (receiver : ℕ) (s : List ℕ) (m : Option Message) → SenderFits sender receiver → Each ActFits (asks time sender receiver s m)
+asks-fit time sender receiver s none h = nobody
+asks-fit time sender receiver s (some (NotifyAlive nt usn l)) h = nobody
+asks-fit time sender receiver s (some (NotifyByeBye nt usn)) h = nobody
+asks-fit time sender receiver s (some (Search st mx)) h = both h nobody
+asks-fit time sender receiver s (some (Response st usn l)) h = nobody
 
 acts-fit : (c : Call) → InRange c → Each ActFits (acts c)
 unfolding acts
@@ -137,7 +137,7 @@ acts-fit (Subscribe kind room) h = nobody
 acts-fit (Advertise name kind location room) h = both {a = Enters name kind location} tt nobody
 acts-fit (Deadvertise name room) h = both {a = Leaves name} tt nobody
 acts-fit (Refresh room) h = nobody
-acts-fit (Datagram time sender receiver s) h = asks-fit time sender receiver s (parsed s) h
+acts-fit (Datagram time sender receiver s) h = asks-fit time sender receiver s (parsed s .message) h
 acts-fit (Timeout time room) h = both {a = Ticks time} tt nobody
 acts-fit (ResetTimer time) h = nobody
 

@@ -2,17 +2,18 @@
 use mathlib.Core.Path.{_≡_, refl}
 use mathlib.Core.Bool.{Bool, true, false, cond, not, _&&_, _||_, true≢false}
 use mathlib.Core.List.{List, [], _∷_}
+use mathlib.Core.Option.{Option, none, some}
 use Prim.Native.Nat.{ℕ, _≤_}
 use native.Mathlib.Omega.{arith}
 use lib.Dec.{leb}
 use lib.ListN.{length}
 use borrow.Author.Tests.{ltb-false, not-false, not-true, eqb-false}
 use Rattle.text.specs.Good.{goodText}
-use Rattle.message.specs.Parse.{parsed, fieldAt, parseRefusal}
+use Rattle.message.specs.Parse.{parsed, fieldAt}
 use Rattle.message.specs.Build.{typeMax, nameMax, atMost}
 use Rattle.message.proofs.Sending.{Fit}
 use Rattle.message.specs.declared.Message.{Message}
-use Rattle.message.specs.declared.Message.the-variants.{Empty, Invalid, NotifyAlive, NotifyByeBye, Search, Response}
+use Rattle.message.specs.declared.Message.the-variants.{NotifyAlive, NotifyByeBye, Search, Response}
 use Rattle.engine.specs.Sizes.{advertisementsMax, locationMax}
 use Rattle.engine.specs.Table.{known}
 use Rattle.engine.specs.Held.{Text, Context, Held, Advertisement, advertised}
@@ -40,13 +41,12 @@ all-passed (c ∷ cs) h e = go (c .fails) (h .0) (all-passed cs (h .1)) e
     go true n p e = absurd (n refl e)
     go false n p e = (refl, p e)
 
-search-numbered : (s : List ℕ) (m : Message) → Numbered (searchChecks s m)
-search-numbered s Empty = tt
-search-numbered s Invalid = tt
-search-numbered s (NotifyAlive nt usn l) = tt
-search-numbered s (NotifyByeBye nt usn) = tt
-search-numbered s (Search st mx) = (λ b. omega arith, (λ b. omega arith, tt))
-search-numbered s (Response st usn l) = tt
+search-numbered : (s : List ℕ) (m : Option Message) → Numbered (searchChecks s m)
+search-numbered s none = tt
+search-numbered s (some (NotifyAlive nt usn l)) = tt
+search-numbered s (some (NotifyByeBye nt usn)) = tt
+search-numbered s (some (Search st mx)) = (λ b. omega arith, (λ b. omega arith, tt))
+search-numbered s (some (Response st usn l)) = tt
 
 numbered : (x : Context) (n : Names) (c : Call) → Numbered (checks x n c)
 unfolding checks
@@ -59,7 +59,7 @@ numbered x n (Advertise name kind location room) = (λ b. omega arith, (λ b. om
 numbered x n (Deadvertise name room) = (λ b. omega arith, tt)
 numbered x n (Refresh room) = (λ b. omega arith, tt)
 numbered x n (Datagram now sender receiver s) =
-    (λ b. omega arith, (λ b e. eqb-false (parseRefusal (parsed s)) 0 (not-true _ b) e, search-numbered s (parsed s)))
+    (λ b. omega arith, (λ b e. eqb-false (parsed s .refusal) 0 (not-true _ b) e, search-numbered s (parsed s .message)))
 numbered x n (Timeout now room) = (λ b. omega arith, (λ b. omega arith, tt))
 numbered x n (ResetTimer now) = (λ b. omega arith, tt)
 
@@ -95,13 +95,12 @@ Single [] = Unit {0}
 Single (x ∷ []) = Unit {0}
 Single (x ∷ y ∷ xs) = ⊥
 
-single-asks : (now : ℕ) (sender : Endpoint) (receiver : ℕ) (s : List ℕ) (m : Message) → Single (asks now sender receiver s m)
-single-asks now sender receiver s Empty = tt
-single-asks now sender receiver s Invalid = tt
-single-asks now sender receiver s (NotifyAlive nt usn l) = tt
-single-asks now sender receiver s (NotifyByeBye nt usn) = tt
-single-asks now sender receiver s (Search st mx) = tt
-single-asks now sender receiver s (Response st usn l) = tt
+single-asks : (now : ℕ) (sender : Endpoint) (receiver : ℕ) (s : List ℕ) (m : Option Message) → Single (asks now sender receiver s m)
+single-asks now sender receiver s none = tt
+single-asks now sender receiver s (some (NotifyAlive nt usn l)) = tt
+single-asks now sender receiver s (some (NotifyByeBye nt usn)) = tt
+single-asks now sender receiver s (some (Search st mx)) = tt
+single-asks now sender receiver s (some (Response st usn l)) = tt
 
 pub single : (c : Call) → Single (acts c)
 unfolding acts
@@ -113,7 +112,7 @@ single (Subscribe kind room) = tt
 single (Advertise name kind location room) = tt
 single (Deadvertise name room) = tt
 single (Refresh room) = tt
-single (Datagram now sender receiver s) = single-asks now sender receiver s (parsed s)
+single (Datagram now sender receiver s) = single-asks now sender receiver s (parsed s .message)
 single (Timeout now room) = tt
 single (ResetTimer now) = tt
 
@@ -125,14 +124,13 @@ Brings as′ (Leaves name) = Unit {0}
 Brings as′ (Asks q) = length (q .target) ≤ typeMax
 Brings as′ (Ticks now) = Unit {0}
 
-asks-bring : (as′ : List Advertisement) (now : ℕ) (sender : Endpoint) (receiver : ℕ) (s : List ℕ) (m : Message) →
+asks-bring : (as′ : List Advertisement) (now : ℕ) (sender : Endpoint) (receiver : ℕ) (s : List ℕ) (m : Option Message) →
     Passed (searchChecks s m) → Each (Brings as′) (asks now sender receiver s m)
-asks-bring as′ now sender receiver s Empty p = nobody
-asks-bring as′ now sender receiver s Invalid p = nobody
-asks-bring as′ now sender receiver s (NotifyAlive nt usn l) p = nobody
-asks-bring as′ now sender receiver s (NotifyByeBye nt usn) p = nobody
-asks-bring as′ now sender receiver s (Search st mx) p = both (ltb-false typeMax (length (fieldAt s st)) (p .1 .0)) nobody
-asks-bring as′ now sender receiver s (Response st usn l) p = nobody
+asks-bring as′ now sender receiver s none p = nobody
+asks-bring as′ now sender receiver s (some (NotifyAlive nt usn l)) p = nobody
+asks-bring as′ now sender receiver s (some (NotifyByeBye nt usn)) p = nobody
+asks-bring as′ now sender receiver s (some (Search st mx)) p = both (ltb-false typeMax (length (fieldAt s st)) (p .1 .0)) nobody
+asks-bring as′ now sender receiver s (some (Response st usn l)) p = nobody
 
 brings-at : (h : Held) (c : Call) → Passed (checks (h .context) (namesOf h c) c) → Each (Brings (h .advertisements)) (acts c)
 unfolding acts checks namesOf
@@ -146,7 +144,7 @@ brings-at h (Advertise name kind location room) p =
     both {a = Enters name kind location} (t .0, t .1, t .2, p .1 .1 .1 .0) nobody
 brings-at h (Deadvertise name room) p = both {a = Leaves name} tt nobody
 brings-at h (Refresh room) p = nobody
-brings-at h (Datagram now sender receiver s) p = asks-bring (h .advertisements) now sender receiver s (parsed s) (p .1 .1)
+brings-at h (Datagram now sender receiver s) p = asks-bring (h .advertisements) now sender receiver s (parsed s .message) (p .1 .1)
 brings-at h (Timeout now room) p = both {a = Ticks now} tt nobody
 brings-at h (ResetTimer now) p = nobody
 

@@ -1,63 +1,64 @@
--- What follows from a datagram's reading: its refusal, what it does to the names, and whom it tells.
-use mathlib.Core.Path.{_≡_, refl, ap}
-use mathlib.Core.Bool.{cond, not}
-use mathlib.Core.List.{List, []}
+-- What follows from parse's answer to a datagram: its refusal, what it does to the names, and whom it tells.
+use mathlib.Core.Path.{_≡_, refl}
+use mathlib.Core.Bool.{true, cond, not, false≢true}
+use mathlib.Core.List.{List, [], _∷_}
 use Prim.Native.Nat.{ℕ, _≤_, _<_}
 use native.Mathlib.Omega.{arith}
 use borrow.Author.Tests.{lt-ltb, le-ltb, ne-eqb}
 use lib.Dec.{eqb}
-use Rattle.message.specs.Parse.{parsed, parseRefusal, fieldAt}
+use types.Run.{OneOf, miss}
+use denote.Enum.Declared.{tagOf}
+use Rattle.message.specs.Parse.{ParseAnswer, answerOf, reads, parsed, fieldAt}
 use Rattle.message.specs.declared.Message.{Message}
-use Rattle.message.specs.declared.Message.the-variants.{Empty, Invalid, NotifyAlive, NotifyByeBye, Search, Response}
+use Rattle.message.specs.declared.Message.the-variants.{NotifyAlive, NotifyByeBye, Search, Response}
+use Rattle.message.specs.declared.Parsed.{Parsed}
+use Rattle.message.specs.declared.Parsed.the-variants.{Message as Says, Empty, Invalid}
+use Rattle.message.proofs.Message.{the-type as message-type}
+use Rattle.message.proofs.Parsed.{the-type as parsed-type}
 use Rattle.text.specs.declared.white.Place.{Place}
 use Rattle.engine.specs.Sizes.{timeMax}
-use Rattle.engine.specs.Reading.{readingOf}
-use Rattle.engine.specs.declared.reading.Reading.the-variants.{Of, Unreadable}
-use Rattle.engine.specs.declared.reading.Subject.the-variants.{Search as SearchFor, Notice}
+use Rattle.engine.specs.Reading.{typeOf, isNotice}
 use Rattle.engine.specs.declared.advertisement.Endpoint.{Endpoint}
 use Rattle.engine.specs.Held.{Text, Context}
 use Rattle.engine.specs.Calls.{Datagram, asks}
 use Rattle.engine.specs.Refusals.{Names, checks, refusal, searchChecks}
 use Rattle.engine.specs.Engine.{tellsOf, tellsAbout}
 
--- a search is read as one
-pub search-read : (m : Message) (st : Place) (mx : ℕ) → readingOf m ≡ Of (SearchFor st mx) → m ≡ Search st mx
-search-read Empty st mx e = absurd (let z : _≡_ {A = ℕ} 0 1 = cc in omega arith)
-search-read Invalid st mx e = absurd (let z : _≡_ {A = ℕ} 0 1 = cc in omega arith)
-search-read (NotifyAlive nt usn l) st mx e = absurd (let z : _≡_ {A = ℕ} 0 1 = cc in omega arith)
-search-read (NotifyByeBye nt usn) st mx e = absurd (let z : _≡_ {A = ℕ} 0 1 = cc in omega arith)
-search-read (Search p k) st mx e = cc
-search-read (Response p usn l) st mx e = absurd (let z : _≡_ {A = ℕ} 0 1 = cc in omega arith)
+-- the numbers of the answers of `parse` that hold no message, and of the messages that are no search
+abbrev pub refusals : List ℕ
+refusals = 1 ∷ 2 ∷ []
+
+abbrev pub notices : List ℕ
+notices = 0 ∷ 1 ∷ 3 ∷ []
+
+-- an answer that holds no message is refused by its number
+pub no-message : (p : Parsed) → OneOf refusals (tagOf parsed-type p) → answerOf p .refusal ≡ 0 → ⊥
+no-message (Says m) k z = miss refusals 0 tt k
+no-message Empty k z = omega arith
+no-message Invalid k z = omega arith
+
+-- a message that is no search is a notice
+is-notice : (m : Message) → OneOf notices (tagOf message-type m) → isNotice m ≡ true
+is-notice (NotifyAlive nt usn l) k = refl
+is-notice (NotifyByeBye nt usn) k = refl
+is-notice (Search st mx) k = absurd (miss notices 2 tt k)
+is-notice (Response st usn l) k = refl
+
+pub no-search : {p : Parsed} {m : Message} → p ≡ Says m → OneOf notices (tagOf message-type m) → isNotice m ≡ true
+no-search {p} {m} e k = is-notice m k
 
 -- a notice is accepted, asks nothing, and tells of its type
-pub record Noticed (s : List ℕ) (kind : Place) (m : Message) : Type 0 where
-  pub accepted : parseRefusal m ≡ 0
-  pub checked : searchChecks s m ≡ []
-  pub asking : (time : ℕ) (sender : Endpoint) (receiver : ℕ) → asks time sender receiver s m ≡ []
-  pub telling : (subscriptions : List Text) → tellsOf subscriptions s m ≡ tellsAbout subscriptions (fieldAt s kind)
+pub record Noticed (s : List ℕ) (kind : Place) (a : ParseAnswer) : Type 0 where
+  pub accepted : a .refusal ≡ 0
+  pub checked : searchChecks s (a .message) ≡ []
+  pub asking : (time : ℕ) (sender : Endpoint) (receiver : ℕ) → asks time sender receiver s (a .message) ≡ []
+  pub telling : (subscriptions : List Text) → tellsOf subscriptions s (a .message) ≡ tellsAbout subscriptions (fieldAt s kind)
 
-pub notice-read : (s : List ℕ) (m : Message) (kind : Place) → readingOf m ≡ Of (Notice kind) → Noticed s kind m
-notice-read s Empty kind e = absurd (let z : _≡_ {A = ℕ} 0 1 = cc in omega arith)
-notice-read s Invalid kind e = absurd (let z : _≡_ {A = ℕ} 0 1 = cc in omega arith)
-notice-read s (NotifyAlive nt usn l) kind e =
-    let p : nt ≡ kind = cc in
-    record { accepted = refl; checked = refl; asking = λ t o r. refl; telling = λ ss. ap (λ (x : Place). tellsAbout ss (fieldAt s x)) p }
-notice-read s (NotifyByeBye nt usn) kind e =
-    let p : nt ≡ kind = cc in
-    record { accepted = refl; checked = refl; asking = λ t o r. refl; telling = λ ss. ap (λ (x : Place). tellsAbout ss (fieldAt s x)) p }
-notice-read s (Search st mx) kind e = absurd (let z : _≡_ {A = ℕ} 0 1 = cc in omega arith)
-notice-read s (Response st usn l) kind e =
-    let p : st ≡ kind = cc in
-    record { accepted = refl; checked = refl; asking = λ t o r. refl; telling = λ ss. ap (λ (x : Place). tellsAbout ss (fieldAt s x)) p }
-
--- what cannot be read is refused by parse's number
-pub unread : (m : Message) → readingOf m ≡ Unreadable → parseRefusal m ≡ 0 → ⊥
-unread Empty e z = omega arith
-unread Invalid e z = omega arith
-unread (NotifyAlive nt usn l) e z = let w : _≡_ {A = ℕ} 0 1 = cc in omega arith
-unread (NotifyByeBye nt usn) e z = let w : _≡_ {A = ℕ} 0 1 = cc in omega arith
-unread (Search st mx) e z = let w : _≡_ {A = ℕ} 0 1 = cc in omega arith
-unread (Response st usn l) e z = let w : _≡_ {A = ℕ} 0 1 = cc in omega arith
+pub notice-read : (s : List ℕ) (m : Message) → isNotice m ≡ true → Noticed s (typeOf m) (reads m)
+notice-read s (NotifyAlive nt usn l) e = record { accepted = refl; checked = refl; asking = λ t o r. refl; telling = λ ss. refl }
+notice-read s (NotifyByeBye nt usn) e = record { accepted = refl; checked = refl; asking = λ t o r. refl; telling = λ ss. refl }
+notice-read s (Search st mx) e = absurd (false≢true e)
+notice-read s (Response st usn l) e = record { accepted = refl; checked = refl; asking = λ t o r. refl; telling = λ ss. refl }
 
 -- the refusal of a datagram: by its time, by what cannot be read, and none for a notice
 module _ (x : Context) (n : Names) (time : ℕ) (sender : Endpoint) (receiver : ℕ) (s : List ℕ) where
@@ -68,9 +69,9 @@ module _ (x : Context) (n : Names) (time : ℕ) (sender : Endpoint) (receiver : 
   by-number : (k : ℕ) (rest : ℕ) → (k ≡ 0 → ⊥) → cond (not (eqb k 0)) k rest ≡ k
   by-number k rest h = rw (ne-eqb k 0 h)
 
-  pub unread-refusal : time ≤ timeMax → (parseRefusal (parsed s) ≡ 0 → ⊥) → refusal x n (Datagram time sender receiver s) ≡ parseRefusal (parsed s)
+  pub unread-refusal : time ≤ timeMax → (parsed s .refusal ≡ 0 → ⊥) → refusal x n (Datagram time sender receiver s) ≡ parsed s .refusal
   unfolding refusal checks
-  unread-refusal h k = rw (le-ltb timeMax time h) (by-number (parseRefusal (parsed s)) _ k)
+  unread-refusal h k = rw (le-ltb timeMax time h) (by-number (parsed s .refusal) _ k)
 
   pub notice-refusal : (kind : Place) → time ≤ timeMax → Noticed s kind (parsed s) → refusal x n (Datagram time sender receiver s) ≡ 0
   unfolding refusal checks

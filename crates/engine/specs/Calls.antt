@@ -2,9 +2,10 @@
 -- `room` is the length of the outbox that is lent.
 use Prim.Native.Nat.{ℕ, _+_}
 use mathlib.Core.List.{List, [], _∷_}
+use mathlib.Core.Option.{Option, none, some}
 use Rattle.message.specs.Parse.{parsed, fieldAt}
 use Rattle.message.specs.declared.Message.{Message}
-use Rattle.message.specs.declared.Message.the-variants.{Empty, Invalid, NotifyAlive, NotifyByeBye, Search, Response}
+use Rattle.message.specs.declared.Message.the-variants.{NotifyAlive, NotifyByeBye, Search, Response}
 use Rattle.engine.specs.Held.{Text}
 use Rattle.engine.specs.declared.advertisement.Endpoint.{Endpoint}
 
@@ -44,14 +45,13 @@ pub data Act : Type 0 where
   Ticks : ℕ → Act
 
 -- the search that a datagram is, if `parse` reads it as one
-abbrev pub asks : ℕ → Endpoint → ℕ → List ℕ → Message → List Act
-asks time sender receiver s Empty = []
-asks time sender receiver s Invalid = []
-asks time sender receiver s (NotifyAlive nt usn l) = []
-asks time sender receiver s (NotifyByeBye nt usn) = []
-asks time sender receiver s (Search st mx) =
+abbrev pub asks : ℕ → Endpoint → ℕ → List ℕ → Option Message → List Act
+asks time sender receiver s none = []
+asks time sender receiver s (some (NotifyAlive nt usn l)) = []
+asks time sender receiver s (some (NotifyByeBye nt usn)) = []
+asks time sender receiver s (some (Search st mx)) =
     Asks (record { target = fieldAt s st; mx = mx; sender = sender; receiver = receiver; time = time }) ∷ []
-asks time sender receiver s (Response st usn l) = []
+asks time sender receiver s (some (Response st usn l)) = []
 
 unfoldable pub acts : Call → List Act
 acts (NewLink index flags outcome room) = []
@@ -62,7 +62,7 @@ acts (Subscribe kind room) = []
 acts (Advertise name kind location room) = Enters name kind location ∷ []
 acts (Deadvertise name room) = Leaves name ∷ []
 acts (Refresh room) = []
-acts (Datagram time sender receiver s) = asks time sender receiver s (parsed s)
+acts (Datagram time sender receiver s) = asks time sender receiver s (parsed s .message)
 acts (Timeout time room) = Ticks time ∷ []
 acts (ResetTimer time) = []
 

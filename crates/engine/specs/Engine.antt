@@ -2,10 +2,11 @@
 use Prim.Native.Nat.{ℕ, zero, suc, _+_, _*_}
 use mathlib.Core.Bool.{cond}
 use mathlib.Core.List.{List, [], _∷_}
+use mathlib.Core.Option.{Option, none, some}
 use lib.ListN.{length}
 use Rattle.message.specs.Parse.{parsed, fieldAt}
 use Rattle.message.specs.declared.Message.{Message}
-use Rattle.message.specs.declared.Message.the-variants.{Empty, Invalid, NotifyAlive, NotifyByeBye, Search, Response}
+use Rattle.message.specs.declared.Message.the-variants.{NotifyAlive, NotifyByeBye, Search, Response}
 use Rattle.engine.specs.Sizes.{outboxSize}
 use Rattle.engine.specs.Table.{known}
 use Rattle.engine.specs.Target.{targetMatch}
@@ -58,13 +59,12 @@ abbrev pub tellsAbout : List Text → Text → Told
 tellsAbout subscriptions kind = record { mask = maskOf subscriptions kind; number = toldOf subscriptions kind; leave = 0 }
 
 -- subscribers are told of the NT or ST of a notify or response; a search tells nobody
-abbrev pub tellsOf : List Text → List ℕ → Message → Told
-tellsOf subscriptions s Empty = tellsNobody
-tellsOf subscriptions s Invalid = tellsNobody
-tellsOf subscriptions s (NotifyAlive nt usn l) = tellsAbout subscriptions (fieldAt s nt)
-tellsOf subscriptions s (NotifyByeBye nt usn) = tellsAbout subscriptions (fieldAt s nt)
-tellsOf subscriptions s (Search st mx) = tellsNobody
-tellsOf subscriptions s (Response st usn l) = tellsAbout subscriptions (fieldAt s st)
+abbrev pub tellsOf : List Text → List ℕ → Option Message → Told
+tellsOf subscriptions s none = tellsNobody
+tellsOf subscriptions s (some (NotifyAlive nt usn l)) = tellsAbout subscriptions (fieldAt s nt)
+tellsOf subscriptions s (some (NotifyByeBye nt usn)) = tellsAbout subscriptions (fieldAt s nt)
+tellsOf subscriptions s (some (Search st mx)) = tellsNobody
+tellsOf subscriptions s (some (Response st usn l)) = tellsAbout subscriptions (fieldAt s st)
 
 unfoldable pub tells : Context → Call → Told
 tells x (NewLink index flags outcome room) = tellsNobody
@@ -75,7 +75,7 @@ tells x (Subscribe kind room) = tellsNobody
 tells x (Advertise name kind location room) = tellsNobody
 tells x (Deadvertise name room) = tellsNobody
 tells x (Refresh room) = tellsNobody
-tells x (Datagram time sender receiver s) = tellsOf (x .subscriptions) s (parsed s)
+tells x (Datagram time sender receiver s) = tellsOf (x .subscriptions) s (parsed s .message)
 tells x (Timeout time room) = tellsNobody
 tells x (ResetTimer time) = tellsNobody
 

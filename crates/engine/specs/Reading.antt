@@ -1,14 +1,19 @@
--- What a datagram comes to for the engine, by what `parse` reads: a search, notice of the type of a notify or response, or nothing that can be read.
+-- What a message is about, for the engine: a search, or notice of the type of a notify or response.
+use mathlib.Core.Bool.{Bool, true, false}
+use Rattle.text.specs.declared.white.Place.{Place}
 use Rattle.message.specs.declared.Message.{Message}
-use Rattle.message.specs.declared.Message.the-variants.{Empty, Invalid, NotifyAlive, NotifyByeBye, Search, Response}
-use Rattle.engine.specs.declared.reading.Subject.the-variants.{Search as SearchFor, Notice}
-use Rattle.engine.specs.declared.reading.Reading.{Reading}
-use Rattle.engine.specs.declared.reading.Reading.the-variants.{Of, Unreadable}
+use Rattle.message.specs.declared.Message.the-variants.{NotifyAlive, NotifyByeBye, Search, Response}
 
-abbrev pub readingOf : Message → Reading
-readingOf Empty = Unreadable
-readingOf Invalid = Unreadable
-readingOf (NotifyAlive nt usn l) = Of (Notice nt)
-readingOf (NotifyByeBye nt usn) = Of (Notice nt)
-readingOf (Search st mx) = Of (SearchFor st mx)
-readingOf (Response st usn l) = Of (Notice st)
+-- where the type stands: NT or ST
+abbrev pub typeOf : Message → Place
+typeOf (NotifyAlive nt usn l) = nt
+typeOf (NotifyByeBye nt usn) = nt
+typeOf (Search st mx) = st
+typeOf (Response st usn l) = st
+
+-- every kind but a search
+abbrev pub isNotice : Message → Bool
+isNotice (NotifyAlive nt usn l) = true
+isNotice (NotifyByeBye nt usn) = true
+isNotice (Search st mx) = false
+isNotice (Response st usn l) = true

@@ -2,13 +2,14 @@
 use Prim.Native.Nat.{ℕ}
 use mathlib.Core.Bool.{Bool, cond, not, _&&_, _||_}
 use mathlib.Core.List.{List, [], _∷_}
+use mathlib.Core.Option.{Option, none, some}
 use lib.Dec.{ltb, leb, eqb}
 use lib.ListN.{length}
 use Rattle.text.specs.Good.{goodText}
-use Rattle.message.specs.Parse.{parsed, fieldAt, parseRefusal}
+use Rattle.message.specs.Parse.{parsed, fieldAt}
 use Rattle.message.specs.Build.{typeMax, nameMax}
 use Rattle.message.specs.declared.Message.{Message}
-use Rattle.message.specs.declared.Message.the-variants.{Empty, Invalid, NotifyAlive, NotifyByeBye, Search, Response}
+use Rattle.message.specs.declared.Message.the-variants.{NotifyAlive, NotifyByeBye, Search, Response}
 use Rattle.engine.specs.Sizes.{timeMax, advertisementsMax, subscriptionsMax, linksMax, addressesMax, locationMax}
 use Rattle.engine.specs.Table.{known}
 use Rattle.engine.specs.Flags.{isMulticast}
@@ -94,13 +95,12 @@ abbrev pub newMulticast : ℕ → ℕ → List Link → Bool
 newMulticast index flags ls = isMulticast flags && not (known byIndex index ls)
 
 -- 9 and 10 are for searches
-abbrev pub searchChecks : List ℕ → Message → List Check
-searchChecks s Empty = []
-searchChecks s Invalid = []
-searchChecks s (NotifyAlive nt usn l) = []
-searchChecks s (NotifyByeBye nt usn) = []
-searchChecks s (Search st mx) = eqb mx 0 refuses waitZero ∷ over typeMax (fieldAt s st) refuses targetOverSize ∷ []
-searchChecks s (Response st usn l) = []
+abbrev pub searchChecks : List ℕ → Option Message → List Check
+searchChecks s none = []
+searchChecks s (some (NotifyAlive nt usn l)) = []
+searchChecks s (some (NotifyByeBye nt usn)) = []
+searchChecks s (some (Search st mx)) = eqb mx 0 refuses waitZero ∷ over typeMax (fieldAt s st) refuses targetOverSize ∷ []
+searchChecks s (some (Response st usn l)) = []
 
 unfoldable pub checks : Context → Names → Call → List Check
 checks x n (NewLink index flags outcome room) =
@@ -132,7 +132,7 @@ checks x n (Advertise name kind location room) =
 checks x n (Deadvertise name room) = ltb room (n .need) refuses outboxShort ∷ []
 checks x n (Refresh room) = ltb room (n .need) refuses outboxShort ∷ []
 checks x n (Datagram time sender receiver s) =
-    late time refuses timeLate ∷ not (eqb (parseRefusal (parsed s)) 0) refuses parseRefusal (parsed s) ∷ searchChecks s (parsed s)
+    late time refuses timeLate ∷ not (eqb (parsed s .refusal) 0) refuses (parsed s .refusal) ∷ searchChecks s (parsed s .message)
 checks x n (Timeout time room) = late time refuses timeLate ∷ ltb room (n .need) refuses outboxShort ∷ []
 checks x n (ResetTimer time) = late time refuses timeLate ∷ []
 

@@ -23,10 +23,7 @@ use crate::news;
 use crate::pending::searched;
 use crate::pending::serve_all;
 use crate::pending::waits_in;
-use crate::reading::Reading;
-use crate::reading::Subject;
-use crate::reading::number_of;
-use crate::reading::reading_of;
+use crate::reading::type_of;
 use crate::refresh_timer::RefreshTimer;
 use crate::refusals;
 use crate::replies::wait_of;
@@ -42,6 +39,8 @@ use crate::sizes::Texts;
 use crate::source::of_up_links;
 use crate::subscription;
 use crate::table::Spot;
+use message::Message;
+use message::Parsed;
 use text::white::Place;
 ghost use mathlib.Core.Path.{_≡_};
 ghost use mathlib.Core.Bool.{true, false, cond, not, _&&_};
@@ -49,7 +48,7 @@ ghost use mathlib.Core.List.{List, []};
 ghost use Prim.Native.Nat.{ℕ, _≤_, _<_};
 ghost use lib.Dec.{leb};
 ghost use lib.ListN.{length};
-ghost use Rattle.message.specs.Parse.{parsed};
+ghost use Rattle.message.specs.Parse.{parsed, reads};
 ghost use Rattle.message.specs.Build.{typeMax, nameMax};
 ghost use Rattle.message.specs.declared.Message.the-variants.{Search};
 ghost use Rattle.engine.specs.Sizes.{advertisementsMax, locationMax, outboxSize, timeMax};
@@ -60,9 +59,7 @@ ghost use Rattle.engine.specs.Links.{upAddresses};
 ghost use Rattle.engine.specs.Records.{byebyeOn};
 ghost use Rattle.engine.specs.Layout.{Sent};
 ghost use Rattle.engine.specs.Replies.{waits, newcomer};
-ghost use Rattle.engine.specs.Reading.{readingOf};
-ghost use Rattle.engine.specs.declared.reading.Reading.the-variants.{Of};
-ghost use Rattle.engine.specs.declared.reading.Subject.the-variants.{Notice};
+ghost use Rattle.engine.specs.Reading.{isNotice};
 ghost use Rattle.engine.specs.Calls.{NewLink, DeletedLink, NewAddress, DeletedAddress, Subscribe, Advertise, Deadvertise, Refresh, Datagram, Timeout, ResetTimer};
 ghost use Rattle.engine.specs.Engine.{refusedBy, answerWith};
 ghost use Rattle.engine.specs.Tallies.{counted, toldBy};
@@ -482,7 +479,7 @@ fn on_search(
     place: Place,
     mx: u8,
 ) -> Answer
-    requires { ⌜ (length (now head) ≡ headPlaces) × NameArrays (now numbers) (now texts) × (time ≤ timeMax) × (parsed (now datagram) ≡ Search place mx) ⌝ }
+    requires { ⌜ (length (now head) ≡ headPlaces) × NameArrays (now numbers) (now texts) × (time ≤ timeMax) × (parsed (now datagram) ≡ reads (Search place mx)) ⌝ }
     ensures { λ r. ⌜ ((links searches : List ℕ) → Answers (engine (now (head .entry)) links searches (now (numbers .entry)) (now (texts .entry))) (Datagram time sender receiver (now (datagram .entry))) [] [] (answered (engine (now (head .entry)) links searches (now (numbers .exit)) (now (texts .exit))) r)) ⌝ }
 {
     let target = message::field(datagram, place);
@@ -504,7 +501,7 @@ fn on_search(
     accepted(head, numbers, 0, asking(asked.matched, asked.joined))
 }
 
-// Notice of a type: the subscriptions that match it are told.
+// Notice of a type, by a notify or response: the subscriptions that match it are told.
 fn on_notice(
     head: &[u64],
     searches: &[u8],
@@ -513,12 +510,12 @@ fn on_notice(
     sender: Endpoint,
     receiver: u32,
     datagram: &[u8],
-    kind: Place,
+    said: Message,
 ) -> Answer
-    requires { ⌜ SearchArrays (now head) (now searches) × (length (now numbers) ≡ numbersSize) × (time ≤ timeMax) × (readingOf (parsed (now datagram)) ≡ Of (Notice kind)) ⌝ }
+    requires { ⌜ SearchArrays (now head) (now searches) × (length (now numbers) ≡ numbersSize) × (time ≤ timeMax) × (parsed (now datagram) ≡ reads said) × (isNotice said ≡ true) ⌝ }
     ensures { λ r. ⌜ ((links texts : List ℕ) → Answers (engine (now (head .entry)) links (now (searches .entry)) (now (numbers .entry)) texts) (Datagram time sender receiver (now (datagram .entry))) [] [] (answered (engine (now (head .entry)) links (now (searches .entry)) (now (numbers .entry)) texts) r)) ⌝ }
 {
-    let told = subscription::told_of(head, searches, message::field(datagram, kind));
+    let told = subscription::told_of(head, searches, message::field(datagram, type_of(said)));
     accepted(head, numbers, 0, telling(told))
 }
 
@@ -538,13 +535,15 @@ pub fn on_data(
     if refusals::TIME_MAX < time {
         return refused(head, numbers, refusals::TIME_LATE);
     }
-    let said = message::parse(datagram);
-    let read = reading_of(said);
-    let Reading::Of(subject) = read else {
-        return refused(head, numbers, number_of(said));
+    let answer = message::parse(datagram);
+    let Parsed::Message(said) = answer else {
+        return refused(head, numbers, message::refusal_of(answer));
     };
-    match subject {
-        Subject::Search(place, mx) => on_search(
+    match said {
+        Message::Search {
+            search_target,
+            maximum_wait_sec,
+        } => on_search(
             head,
             numbers,
             texts,
@@ -552,10 +551,10 @@ pub fn on_data(
             sender,
             receiver,
             datagram,
-            place,
-            mx,
+            search_target,
+            maximum_wait_sec,
         ),
-        Subject::Notice(kind) => on_notice(
+        _ => on_notice(
             head,
             searches,
             numbers,
@@ -563,7 +562,7 @@ pub fn on_data(
             sender,
             receiver,
             datagram,
-            kind,
+            said,
         ),
     }
 }

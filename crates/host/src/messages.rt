@@ -1,5 +1,5 @@
 // The messages, as crate `message_c` exports them for the comparisons: the same functions under the names of this library.
-use message_c::Parsed;
+use message_c::ParsedNumbers;
 use message_c::Written;
 ghost use mathlib.Core.Path.{_≡_};
 ghost use Rattle.message.specs.Build.{Builds, searchTexts, byebyeTexts, locatedTexts, searchText, responseText, notifyText, byebyeText};
@@ -8,7 +8,7 @@ ghost use Rattle.message_c.specs.Numbers.{numbersOf, builtOf};
 
 // What a datagram says.
 #[no_mangle]
-pub extern "C" fn kohlsilk_parse(datagram: &[u8]) -> Parsed
+pub extern "C" fn kohlsilk_parse(datagram: &[u8]) -> ParsedNumbers
     ensures { λ r. ⌜ r ≡ numbersOf (parsed (now (datagram .entry))) ⌝ }
 {
     message_c::message_c_parse(datagram)

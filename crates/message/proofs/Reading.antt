@@ -19,27 +19,26 @@ use Rattle.text.specs.declared.white.Place.{Place}
 use Rattle.text.proofs.FirstLine.{Joined, joined}
 use Rattle.message.specs.Build.{notifyLine, responseLine, searchLine}
 use Rattle.message.specs.Headers.{header, headerIn, headerFrom, headersFrom, afterFirst, keys}
-use Rattle.message.specs.Parse.{fieldAt, given, aliveOf, byebyeOf, notifyOf, responseOf, searchIn, searchOf, startLine, notifyFrom, responseFrom, searchFrom, parsed}
+use Rattle.message.specs.Refusals.{datagramEmpty, datagramInvalid}
+use Rattle.message.specs.Parse.{ParseAnswer, refuses, fieldAt, given, aliveOf, byebyeOf, notifyOf, responseOf, searchIn, searchOf, startLine, notifyFrom, responseFrom, searchFrom, parsed}
 use Rattle.message.specs.declared.headers.Header.{Header}
 use Rattle.message.specs.declared.headers.Header.the-variants.{At}
-use Rattle.message.specs.declared.Message.{Message}
-use Rattle.message.specs.declared.Message.the-variants.{Empty, Invalid}
 
 -- a choice whose test is known
-pub is-so : {t t′ : Bool} {m a : Message} (b : Message) → t ≡ t′ → t ≡ true → m ≡ a → m ≡ cond t′ a b
+pub is-so : {t t′ : Bool} {m a : ParseAnswer} (b : ParseAnswer) → t ≡ t′ → t ≡ true → m ≡ a → m ≡ cond t′ a b
 is-so {t} {t′} {m} {a} b e f g = g ∙ sym (ap (λ (x : Bool). cond x a b) (sym e ∙ f))
 
-pub is-not : {t t′ : Bool} {m b : Message} (a : Message) → t ≡ t′ → t ≡ false → m ≡ b → m ≡ cond t′ a b
+pub is-not : {t t′ : Bool} {m b : ParseAnswer} (a : ParseAnswer) → t ≡ t′ → t ≡ false → m ≡ b → m ≡ cond t′ a b
 is-not {t} {t′} {m} {b} a e f g = g ∙ sym (ap (λ (x : Bool). cond x a b) (sym e ∙ f))
 
 -- fields whose headers are there
-pub given1 : {a : Header} {x : Place} (f : Place → Message) → a ≡ At x → f x ≡ given a f
+pub given1 : {a : Header} {x : Place} (f : Place → ParseAnswer) → a ≡ At x → f x ≡ given a f
 given1 f p = sym (ap (λ (h : Header). given h f) p)
 
-pub given2 : {a b : Header} {x y : Place} (f : Place → Place → Message) → a ≡ At x → b ≡ At y → f x y ≡ given a (λ x. given b (λ y. f x y))
+pub given2 : {a b : Header} {x y : Place} (f : Place → Place → ParseAnswer) → a ≡ At x → b ≡ At y → f x y ≡ given a (λ x. given b (λ y. f x y))
 given2 {a} {b} {x} f p q = given1 (f x) q ∙ given1 (λ x. given b (λ y. f x y)) p
 
-pub given3 : {a b c : Header} {x y z : Place} (f : Place → Place → Place → Message) → a ≡ At x → b ≡ At y → c ≡ At z
+pub given3 : {a b c : Header} {x y z : Place} (f : Place → Place → Place → ParseAnswer) → a ≡ At x → b ≡ At y → c ≡ At z
     → f x y z ≡ given a (λ x. given b (λ y. given c (λ z. f x y z)))
 given3 {a} {b} {c} {x} f p q r = given2 (f x) q r ∙ given1 (λ x. given b (λ y. given c (λ z. f x y z))) p
 
@@ -60,25 +59,25 @@ module _ (s : List ℕ) (start n : ℕ) where
 
 -- a notify, from the value of its NTS
 module _ (s : List ℕ) {nts : Header} (nt usn location : Header) {p : Place} (there : nts ≡ At p) {kind : List ℕ} (at : kind ≡ fieldAt s p) where
-  by-kind : cond (equal kind (bytes "ssdp:alive")) (aliveOf nt usn location) (cond (equal kind (bytes "ssdp:byebye")) (byebyeOf nt usn) Invalid)
+  by-kind : cond (equal kind (bytes "ssdp:alive")) (aliveOf nt usn location) (cond (equal kind (bytes "ssdp:byebye")) (byebyeOf nt usn) (refuses datagramInvalid))
       ≡ notifyOf s nts nt usn location
   by-kind =
-      ap (λ (l : List ℕ). cond (equal l (bytes "ssdp:alive")) (aliveOf nt usn location) (cond (equal l (bytes "ssdp:byebye")) (byebyeOf nt usn) Invalid)) at
-      ∙ given1 (λ p. cond (equal (fieldAt s p) (bytes "ssdp:alive")) (aliveOf nt usn location) (cond (equal (fieldAt s p) (bytes "ssdp:byebye")) (byebyeOf nt usn) Invalid)) there
+      ap (λ (l : List ℕ). cond (equal l (bytes "ssdp:alive")) (aliveOf nt usn location) (cond (equal l (bytes "ssdp:byebye")) (byebyeOf nt usn) (refuses datagramInvalid))) at
+      ∙ given1 (λ p. cond (equal (fieldAt s p) (bytes "ssdp:alive")) (aliveOf nt usn location) (cond (equal (fieldAt s p) (bytes "ssdp:byebye")) (byebyeOf nt usn) (refuses datagramInvalid))) there
 
   module _ {t : Bool} (alive : t ≡ equal kind (bytes "ssdp:alive")) where
-    pub is-alive : {m : Message} → t ≡ true → m ≡ aliveOf nt usn location → m ≡ notifyOf s nts nt usn location
+    pub is-alive : {m : ParseAnswer} → t ≡ true → m ≡ aliveOf nt usn location → m ≡ notifyOf s nts nt usn location
     is-alive f g = is-so _ alive f g ∙ by-kind
 
-    pub is-byebye : {u : Bool} {m : Message} → t ≡ false → u ≡ equal kind (bytes "ssdp:byebye") → u ≡ true → m ≡ byebyeOf nt usn → m ≡ notifyOf s nts nt usn location
+    pub is-byebye : {u : Bool} {m : ParseAnswer} → t ≡ false → u ≡ equal kind (bytes "ssdp:byebye") → u ≡ true → m ≡ byebyeOf nt usn → m ≡ notifyOf s nts nt usn location
     is-byebye f e g h = is-not _ alive f (is-so _ e g h) ∙ by-kind
 
-    pub is-neither : {u : Bool} → t ≡ false → u ≡ equal kind (bytes "ssdp:byebye") → u ≡ false → Invalid ≡ notifyOf s nts nt usn location
+    pub is-neither : {u : Bool} → t ≡ false → u ≡ equal kind (bytes "ssdp:byebye") → u ≡ false → refuses datagramInvalid ≡ notifyOf s nts nt usn location
     is-neither f e g = is-not _ alive f (is-not _ e g refl) ∙ by-kind
 
 -- a search, from the number of its MX
 module _ (s : List ℕ) {st mx : Header} {x y : Place} (p : st ≡ At x) (q : mx ≡ At y) {l : List ℕ} (at : l ≡ fieldAt s y) {n : Number} (e : n ≡ number max8 l) where
-  pub is-search : {m : Message} → m ≡ searchIn x n → m ≡ searchOf s st mx
+  pub is-search : {m : ParseAnswer} → m ≡ searchIn x n → m ≡ searchOf s st mx
   is-search f =
       f ∙ ap (searchIn x) (e ∙ ap (number max8) at) ∙ given2 (λ t p. searchIn t (number max8 (fieldAt s p))) p q
 
@@ -107,52 +106,52 @@ number-most max (a ∷ s) {v} e = go (eqb a 43) e
     go false f = unsigned-most max (a ∷ s) f
 
 -- the answers of `parse`
-pub is-empty : (s : List ℕ) → length s ≡ 0 → Empty ≡ parsed s
+pub is-empty : (s : List ℕ) → length s ≡ 0 → refuses datagramEmpty ≡ parsed s
 unfolding parsed
 is-empty [] h = refl
 is-empty (b ∷ s) h = absurd (omega arith)
 
 -- the messages read from the table of headers
 module _ (s : List ℕ) (from : ℕ) {h : List Header} (table : h ≡ headersFrom s from) (d : Header) where
-  pub notify-read : {m : Message} → m ≡ notifyOf s (getD h 3 d) (getD h 0 d) (getD h 4 d) (getD h 5 d) → m ≡ notifyFrom s from
+  pub notify-read : {m : ParseAnswer} → m ≡ notifyOf s (getD h 3 d) (getD h 0 d) (getD h 4 d) (getD h 5 d) → m ≡ notifyFrom s from
   unfolding notifyFrom keys
   notify-read e = e ∙ ap (λ (h : List Header). notifyOf s (getD h 3 d) (getD h 0 d) (getD h 4 d) (getD h 5 d)) table
 
-  pub response-read : {m : Message} → m ≡ responseOf (getD h 1 d) (getD h 4 d) (getD h 5 d) → m ≡ responseFrom s from
+  pub response-read : {m : ParseAnswer} → m ≡ responseOf (getD h 1 d) (getD h 4 d) (getD h 5 d) → m ≡ responseFrom s from
   unfolding responseFrom keys
   response-read e = e ∙ ap (λ (h : List Header). responseOf (getD h 1 d) (getD h 4 d) (getD h 5 d)) table
 
-  pub search-read : {m : Message} → m ≡ searchOf s (getD h 1 d) (getD h 2 d) → m ≡ searchFrom s from
+  pub search-read : {m : ParseAnswer} → m ≡ searchOf s (getD h 1 d) (getD h 2 d) → m ≡ searchFrom s from
   unfolding searchFrom keys
   search-read e = e ∙ ap (λ (h : List Header). searchOf s (getD h 1 d) (getD h 2 d)) table
 
-four : (f : Header → Header → Header → Header → Message) {a b c d a′ b′ c′ d′ : Header} → a ≡ a′ → b ≡ b′ → c ≡ c′ → d ≡ d′ → f a b c d ≡ f a′ b′ c′ d′
+four : (f : Header → Header → Header → Header → ParseAnswer) {a b c d a′ b′ c′ d′ : Header} → a ≡ a′ → b ≡ b′ → c ≡ c′ → d ≡ d′ → f a b c d ≡ f a′ b′ c′ d′
 four f p q r s = cc
 
 -- the message of each first line
-abbrev pub notified : List ℕ → Message
+abbrev pub notified : List ℕ → ParseAnswer
 notified s = notifyOf s (header s (bytes "NTS")) (header s (bytes "NT")) (header s (bytes "USN")) (header s (bytes "LOCATION"))
 
-abbrev pub responded : List ℕ → Message
+abbrev pub responded : List ℕ → ParseAnswer
 responded s = responseOf (header s (bytes "ST")) (header s (bytes "USN")) (header s (bytes "LOCATION"))
 
-abbrev pub searched : List ℕ → Message
+abbrev pub searched : List ℕ → ParseAnswer
 searched s = searchOf s (header s (bytes "ST")) (header s (bytes "MX"))
 
-abbrev pub byLine : List ℕ → List ℕ → Message
-byLine s first = cond (equal first notifyLine) (notified s) (cond (equal first responseLine) (responded s) (cond (equal first searchLine) (searched s) Invalid))
+abbrev pub byLine : List ℕ → List ℕ → ParseAnswer
+byLine s first = cond (equal first notifyLine) (notified s) (cond (equal first responseLine) (responded s) (cond (equal first searchLine) (searched s) (refuses datagramInvalid)))
 
 module _ (s : List ℕ) (some : length s ≡ 0 → ⊥) {u : Bool} (encoded : u ≡ utf8 s) where
-  not-empty : cond (not (utf8 s)) Invalid (byLine s (startLine s)) ≡ parsed s
+  not-empty : cond (not (utf8 s)) (refuses datagramInvalid) (byLine s (startLine s)) ≡ parsed s
   unfolding parsed
-  not-empty = sym (ap (λ (b : Bool). cond b Empty (cond (not (utf8 s)) Invalid (byLine s (startLine s)))) (ne-eqb (length s) 0 some))
+  not-empty = sym (ap (λ (b : Bool). cond b (refuses datagramEmpty) (cond (not (utf8 s)) (refuses datagramInvalid) (byLine s (startLine s)))) (ne-eqb (length s) 0 some))
 
-  pub not-encoded : u ≡ false → Invalid ≡ parsed s
-  not-encoded f = sym (ap (λ (b : Bool). cond (not b) Invalid (byLine s (startLine s))) (sym encoded ∙ f)) ∙ not-empty
+  pub not-encoded : u ≡ false → refuses datagramInvalid ≡ parsed s
+  not-encoded f = sym (ap (λ (b : Bool). cond (not b) (refuses datagramInvalid) (byLine s (startLine s))) (sym encoded ∙ f)) ∙ not-empty
 
   pub with-start : u ≡ true → {first : List ℕ} → first ≡ startLine s → byLine s first ≡ parsed s
   with-start ok start =
-      ap (byLine s) start ∙ sym (ap (λ (b : Bool). cond (not b) Invalid (byLine s (startLine s))) (sym encoded ∙ ok)) ∙ not-empty
+      ap (byLine s) start ∙ sym (ap (λ (b : Bool). cond (not b) (refuses datagramInvalid) (byLine s (startLine s))) (sym encoded ∙ ok)) ∙ not-empty
 
   module _ (ok : u ≡ true) {r : Line} (line : r ≡ firstLine s) {first : List ℕ} (start : first ≡ take (r .len) s) where
     line-of : Joined s r
@@ -184,16 +183,16 @@ module _ (s : List ℕ) (some : length s ≡ 0 → ⊥) {u : Bool} (encoded : u 
     searched-is = four (λ a b c d. searchOf s a b) (look (bytes "ST")) (look (bytes "MX")) (look (bytes "ST")) (look (bytes "ST"))
 
     module _ {t : Bool} (a : t ≡ equal first notifyLine) where
-      pub parsed-notify : {m : Message} → t ≡ true → m ≡ notifyFrom s (r .next) → m ≡ parsed s
+      pub parsed-notify : {m : ParseAnswer} → t ≡ true → m ≡ notifyFrom s (r .next) → m ≡ parsed s
       parsed-notify f g = is-so _ a f (g ∙ notified-is) ∙ by-line
 
       module _ (f : t ≡ false) {v : Bool} (b : v ≡ equal first responseLine) where
-        pub parsed-response : {m : Message} → v ≡ true → m ≡ responseFrom s (r .next) → m ≡ parsed s
+        pub parsed-response : {m : ParseAnswer} → v ≡ true → m ≡ responseFrom s (r .next) → m ≡ parsed s
         parsed-response g h = is-not _ a f (is-so _ b g (h ∙ responded-is)) ∙ by-line
 
         module _ (g : v ≡ false) {w : Bool} (c : w ≡ equal first searchLine) where
-          pub parsed-search : {m : Message} → w ≡ true → m ≡ searchFrom s (r .next) → m ≡ parsed s
+          pub parsed-search : {m : ParseAnswer} → w ≡ true → m ≡ searchFrom s (r .next) → m ≡ parsed s
           parsed-search h k = is-not _ a f (is-not _ b g (is-so _ c h (k ∙ searched-is))) ∙ by-line
 
-          pub parsed-none : w ≡ false → Invalid ≡ parsed s
+          pub parsed-none : w ≡ false → refuses datagramInvalid ≡ parsed s
           parsed-none h = is-not _ a f (is-not _ b g (is-not _ c h refl)) ∙ by-line

@@ -16,7 +16,7 @@ use Rattle.text.specs.declared.number.Number.the-variants.{Value}
 use Rattle.text.specs.declared.white.Place.{Place}
 use Rattle.message.specs.Build.{HeaderField, field, message, searchHeaders, responseHeaders, notifyHeaders, byebyeHeaders, searchText, responseText, notifyText, byebyeText, searchLine, responseLine, notifyLine, hostText, maxAgeText, serverText, bootHeaders}
 use Rattle.message.specs.Headers.{header}
-use Rattle.message.specs.Parse.{fieldAt, parsed}
+use Rattle.message.specs.Parse.{ParseAnswer, reads, fieldAt, parsed}
 use Rattle.message.specs.RoundTrip as trip
 use Rattle.message.specs.RoundTrip.{Content, contentOf, read, RoundTrip}
 use Rattle.message.specs.declared.headers.Header.{Header}
@@ -149,9 +149,9 @@ notify-back nt usn loc p q r =
     let type = holds notifyLine (fixed .notify) f (bytes "NT") refl in
     let name = holds notifyLine (fixed .notify) f (bytes "USN") refl in
     let location = holds notifyLine (fixed .notify) f (bytes "LOCATION") refl in
-    ap (contentOf s)
+    ap (λ (a : ParseAnswer). contentOf s (a .message))
     (sym (by-first notifyLine (fixed .notify) f)
-    ∙ sym (is-alive s (header s (bytes "NT")) (header s (bytes "USN")) (header s (bytes "LOCATION")) (nts .is) (sym (nts .text)) refl refl (given3 NotifyAlive (type .is) (name .is) (location .is))))
+    ∙ sym (is-alive s (header s (bytes "NT")) (header s (bytes "USN")) (header s (bytes "LOCATION")) (nts .is) (sym (nts .text)) refl refl (given3 (λ t u l. reads (NotifyAlive t u l)) (type .is) (name .is) (location .is))))
     ∙ three trip.alive (type .text) (name .text) (location .text)
 
 byebye-back : (nt usn : List ℕ) → goodText nt ≡ true → goodText usn ≡ true → read (byebyeText nt usn) ≡ trip.byebye nt usn
@@ -162,9 +162,9 @@ byebye-back nt usn p q =
     let nts = holds notifyLine (fixed .notify) f (bytes "NTS") refl in
     let type = holds notifyLine (fixed .notify) f (bytes "NT") refl in
     let name = holds notifyLine (fixed .notify) f (bytes "USN") refl in
-    ap (contentOf s)
+    ap (λ (a : ParseAnswer). contentOf s (a .message))
     (sym (by-first notifyLine (fixed .notify) f)
-    ∙ sym (is-byebye s (header s (bytes "NT")) (header s (bytes "USN")) (header s (bytes "LOCATION")) (nts .is) (sym (nts .text)) refl refl refl refl (given2 NotifyByeBye (type .is) (name .is))))
+    ∙ sym (is-byebye s (header s (bytes "NT")) (header s (bytes "USN")) (header s (bytes "LOCATION")) (nts .is) (sym (nts .text)) refl refl refl refl (given2 (λ t u. reads (NotifyByeBye t u)) (type .is) (name .is))))
     ∙ two trip.byebye (type .text) (name .text)
 
 response-back : (st usn loc : List ℕ) → goodText st ≡ true → goodText usn ≡ true → goodText loc ≡ true → read (responseText st usn loc) ≡ trip.response st usn loc
@@ -175,7 +175,7 @@ response-back st usn loc p q r =
     let target = holds responseLine (fixed .ok) f (bytes "ST") refl in
     let name = holds responseLine (fixed .ok) f (bytes "USN") refl in
     let location = holds responseLine (fixed .ok) f (bytes "LOCATION") refl in
-    ap (contentOf s) (sym (by-first responseLine (fixed .ok) f) ∙ sym (given3 Response (target .is) (name .is) (location .is)))
+    ap (λ (a : ParseAnswer). contentOf s (a .message)) (sym (by-first responseLine (fixed .ok) f) ∙ sym (given3 (λ t u l. reads (Response t u l)) (target .is) (name .is) (location .is)))
     ∙ three trip.response (target .text) (name .text) (location .text)
 
 search-back : (st : List ℕ) → goodText st ≡ true → read (searchText st) ≡ trip.searching st 5
@@ -185,7 +185,7 @@ search-back st p =
     let f : AllSound (searchHeaders st) = search-sound st p in
     let target = holds searchLine (fixed .search) f (bytes "ST") refl in
     let mx = holds searchLine (fixed .search) f (bytes "MX") refl in
-    ap (contentOf s) (sym (by-first searchLine (fixed .search) f) ∙ sym (is-search s (target .is) (mx .is) (sym (mx .text)) (sym (fixed .seconds)) refl))
+    ap (λ (a : ParseAnswer). contentOf s (a .message)) (sym (by-first searchLine (fixed .search) f) ∙ sym (is-search s (target .is) (mx .is) (sym (mx .text)) (sym (fixed .seconds)) refl))
     ∙ ap (λ (x : List ℕ). trip.searching x 5) (target .text)
 
 pub round-trip : RoundTrip

@@ -3,11 +3,12 @@ use Prim.Native.Nat.{ℕ}
 use mathlib.Core.Path.{_≡_}
 use mathlib.Core.Bool.{true}
 use mathlib.Core.List.{List}
+use mathlib.Core.Option.{Option, none, some}
 use Rattle.text.specs.Good.{goodText}
 use Rattle.message.specs.Build.{searchText, responseText, notifyText, byebyeText}
 use Rattle.message.specs.Parse.{fieldAt, parsed}
 use Rattle.message.specs.declared.Message.{Message}
-use Rattle.message.specs.declared.Message.the-variants.{Empty, Invalid, NotifyAlive, NotifyByeBye, Search, Response}
+use Rattle.message.specs.declared.Message.the-variants.{NotifyAlive, NotifyByeBye, Search, Response}
 
 -- a message with its fields as texts
 pub data Content : Type 0 where
@@ -18,17 +19,16 @@ pub data Content : Type 0 where
   response : (target name location : List ℕ) → Content
 
 -- the fields that stand at the places of a parsed datagram
-abbrev pub contentOf : List ℕ → Message → Content
-contentOf s Empty = refused
-contentOf s Invalid = refused
-contentOf s (NotifyAlive type name location) = alive (fieldAt s type) (fieldAt s name) (fieldAt s location)
-contentOf s (NotifyByeBye type name) = byebye (fieldAt s type) (fieldAt s name)
-contentOf s (Search target seconds) = searching (fieldAt s target) seconds
-contentOf s (Response target name location) = response (fieldAt s target) (fieldAt s name) (fieldAt s location)
+abbrev pub contentOf : List ℕ → Option Message → Content
+contentOf s none = refused
+contentOf s (some (NotifyAlive type name location)) = alive (fieldAt s type) (fieldAt s name) (fieldAt s location)
+contentOf s (some (NotifyByeBye type name)) = byebye (fieldAt s type) (fieldAt s name)
+contentOf s (some (Search target seconds)) = searching (fieldAt s target) seconds
+contentOf s (some (Response target name location)) = response (fieldAt s target) (fieldAt s name) (fieldAt s location)
 
 -- what a datagram says
 abbrev pub read : List ℕ → Content
-read datagram = contentOf datagram (parsed datagram)
+read datagram = contentOf datagram (parsed datagram .message)
 
 -- for all good texts, the empty one too, whatever their length
 pub record RoundTrip : Type 0 where

@@ -1,4 +1,4 @@
-// SSDP messages: document 01, 'Messages'. `parse` answers the places of a datagram's fields; `build_*` write the four kinds.
+// SSDP messages: document 01, 'Messages'. `parse` answers a message, whose fields are places in the datagram, or why there is none; `build_*` write the four kinds.
 // Contracts cite specs/Parse.antt, specs/Headers.antt and specs/Build.antt.
 use crate::headers::Header;
 use crate::headers::LOCATION;
@@ -14,7 +14,7 @@ use text::number::Number;
 use text::utf8;
 use text::white::Place;
 ghost use mathlib.Core.Path.{_≡_};
-ghost use Rattle.message.specs.Parse.{fieldAt, aliveOf, byebyeOf, notifyOf, responseOf, searchOf, notifyFrom, responseFrom, searchFrom, parsed};
+ghost use Rattle.message.specs.Parse.{fieldAt, aliveOf, byebyeOf, notifyOf, responseOf, searchOf, notifyFrom, responseFrom, searchFrom, parsed, answerOf};
 
 pub mod build;
 pub mod headers;
@@ -28,10 +28,15 @@ pub use build::build_search;
 // MX has 8 bits.
 const MX_MAX: u64 = 255;
 
-// What a datagram says, or that it is refused: Empty 7, Invalid 8.
+// Document 01's numbers for what `parse` answers.
+const ACCEPTED: u32 = 0;
+
+const DATAGRAM_EMPTY: u32 = 7;
+
+const DATAGRAM_INVALID: u32 = 8;
+
+// What a datagram says: its fields are places in it.
 pub enum Message {
-    Empty,
-    Invalid,
     NotifyAlive {
         notification_type: Place,
         unique_service_name: Place,
@@ -52,6 +57,13 @@ pub enum Message {
     },
 }
 
+// What `parse` answers: the message, or why there is none.
+pub enum Parsed {
+    Message(Message),
+    Empty,
+    Invalid,
+}
+
 // What stands at a place; nothing of it where the datagram has ended.
 pub fn field(s: &[u8], place: Place) -> &[u8]
     ensures { λ r. ⌜ now r ≡ fieldAt (now (s .entry)) place ⌝ }
@@ -68,45 +80,45 @@ pub fn field(s: &[u8], place: Place) -> &[u8]
     &rest[..len]
 }
 
-fn alive_of(nt: Header, usn: Header, location: Header) -> Message
-    ensures { λ r. ⌜ r ≡ aliveOf nt usn location ⌝ }
+fn alive_of(nt: Header, usn: Header, location: Header) -> Parsed
+    ensures { λ r. ⌜ answerOf r ≡ aliveOf nt usn location ⌝ }
 {
     let Header::At(notification_type) = nt else {
-        return Message::Invalid;
+        return Parsed::Invalid;
     };
     let Header::At(unique_service_name) = usn else {
-        return Message::Invalid;
+        return Parsed::Invalid;
     };
     let Header::At(location) = location else {
-        return Message::Invalid;
+        return Parsed::Invalid;
     };
-    Message::NotifyAlive {
+    Parsed::Message(Message::NotifyAlive {
         notification_type,
         unique_service_name,
         location,
-    }
+    })
 }
 
-fn byebye_of(nt: Header, usn: Header) -> Message
-    ensures { λ r. ⌜ r ≡ byebyeOf nt usn ⌝ }
+fn byebye_of(nt: Header, usn: Header) -> Parsed
+    ensures { λ r. ⌜ answerOf r ≡ byebyeOf nt usn ⌝ }
 {
     let Header::At(notification_type) = nt else {
-        return Message::Invalid;
+        return Parsed::Invalid;
     };
     let Header::At(unique_service_name) = usn else {
-        return Message::Invalid;
+        return Parsed::Invalid;
     };
-    Message::NotifyByeBye {
+    Parsed::Message(Message::NotifyByeBye {
         notification_type,
         unique_service_name,
-    }
+    })
 }
 
-fn notify_of(s: &[u8], nts: Header, nt: Header, usn: Header, location: Header) -> Message
-    ensures { λ r. ⌜ r ≡ notifyOf (now (s .entry)) nts nt usn location ⌝ }
+fn notify_of(s: &[u8], nts: Header, nt: Header, usn: Header, location: Header) -> Parsed
+    ensures { λ r. ⌜ answerOf r ≡ notifyOf (now (s .entry)) nts nt usn location ⌝ }
 {
     let Header::At(place) = nts else {
-        return Message::Invalid;
+        return Parsed::Invalid;
     };
     let kind = field(s, place);
     if bytes::equal(kind, b"ssdp:alive") {
@@ -115,77 +127,77 @@ fn notify_of(s: &[u8], nts: Header, nt: Header, usn: Header, location: Header) -
     if bytes::equal(kind, b"ssdp:byebye") {
         return byebye_of(nt, usn);
     }
-    Message::Invalid
+    Parsed::Invalid
 }
 
-fn response_of(st: Header, usn: Header, location: Header) -> Message
-    ensures { λ r. ⌜ r ≡ responseOf st usn location ⌝ }
+fn response_of(st: Header, usn: Header, location: Header) -> Parsed
+    ensures { λ r. ⌜ answerOf r ≡ responseOf st usn location ⌝ }
 {
     let Header::At(search_target) = st else {
-        return Message::Invalid;
+        return Parsed::Invalid;
     };
     let Header::At(unique_service_name) = usn else {
-        return Message::Invalid;
+        return Parsed::Invalid;
     };
     let Header::At(location) = location else {
-        return Message::Invalid;
+        return Parsed::Invalid;
     };
-    Message::Response {
+    Parsed::Message(Message::Response {
         search_target,
         unique_service_name,
         location,
-    }
+    })
 }
 
-fn search_of(s: &[u8], st: Header, mx: Header) -> Message
-    ensures { λ r. ⌜ r ≡ searchOf (now (s .entry)) st mx ⌝ }
+fn search_of(s: &[u8], st: Header, mx: Header) -> Parsed
+    ensures { λ r. ⌜ answerOf r ≡ searchOf (now (s .entry)) st mx ⌝ }
 {
     let Header::At(search_target) = st else {
-        return Message::Invalid;
+        return Parsed::Invalid;
     };
     let Header::At(place) = mx else {
-        return Message::Invalid;
+        return Parsed::Invalid;
     };
     let Number::Value(seconds) = number::up_to(field(s, place), MX_MAX) else {
-        return Message::Invalid;
+        return Parsed::Invalid;
     };
-    Message::Search {
+    Parsed::Message(Message::Search {
         search_target,
         maximum_wait_sec: seconds as u8,
-    }
+    })
 }
 
 // The message of each first line, from the headers of the lines from `from` on.
-fn notify_from(s: &[u8], from: usize) -> Message
-    ensures { λ r. ⌜ r ≡ notifyFrom (now (s .entry)) from ⌝ }
+fn notify_from(s: &[u8], from: usize) -> Parsed
+    ensures { λ r. ⌜ answerOf r ≡ notifyFrom (now (s .entry)) from ⌝ }
 {
     let h = headers::headers_from(s, from);
     notify_of(s, h[NTS], h[NT], h[USN], h[LOCATION])
 }
 
-fn response_from(s: &[u8], from: usize) -> Message
-    ensures { λ r. ⌜ r ≡ responseFrom (now (s .entry)) from ⌝ }
+fn response_from(s: &[u8], from: usize) -> Parsed
+    ensures { λ r. ⌜ answerOf r ≡ responseFrom (now (s .entry)) from ⌝ }
 {
     let h = headers::headers_from(s, from);
     response_of(h[ST], h[USN], h[LOCATION])
 }
 
-fn search_from(s: &[u8], from: usize) -> Message
-    ensures { λ r. ⌜ r ≡ searchFrom (now (s .entry)) from ⌝ }
+fn search_from(s: &[u8], from: usize) -> Parsed
+    ensures { λ r. ⌜ answerOf r ≡ searchFrom (now (s .entry)) from ⌝ }
 {
     let h = headers::headers_from(s, from);
     search_of(s, h[ST], h[MX])
 }
 
-// The message of a datagram. A first line of no kind needs no look at the headers.
-pub fn parse(buf: &[u8]) -> Message
-    ensures { λ r. ⌜ r ≡ parsed (now (buf .entry)) ⌝ }
+// The message of a datagram, if it is one. A first line of no kind needs no look at the headers.
+pub fn parse(buf: &[u8]) -> Parsed
+    ensures { λ r. ⌜ answerOf r ≡ parsed (now (buf .entry)) ⌝ }
 {
     if buf.len() == 0 {
-        return Message::Empty;
+        return Parsed::Empty;
     }
     if !utf8::is_utf8(buf) {
-        return Message::Invalid;
+        return Parsed::Invalid;
     }
     let line = lines::first_line(buf);
     let len = line.len;
@@ -200,5 +212,16 @@ pub fn parse(buf: &[u8]) -> Message
     if bytes::equal(first, b"M-SEARCH * HTTP/1.1") {
         return search_from(buf, next);
     }
-    Message::Invalid
+    Parsed::Invalid
+}
+
+// Document 01's number for an answer: 0 for a message, else its refusal.
+pub fn refusal_of(answer: Parsed) -> u32
+    ensures { λ r. ⌜ r ≡ answerOf answer .refusal ⌝ }
+{
+    match answer {
+        Parsed::Message(_) => ACCEPTED,
+        Parsed::Empty => DATAGRAM_EMPTY,
+        Parsed::Invalid => DATAGRAM_INVALID,
+    }
 }

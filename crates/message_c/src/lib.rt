@@ -2,15 +2,16 @@
 // answer is numbers. The comparisons and benchmarks of differential/ link it.
 ghost use mathlib.Core.Path.{_≡_};
 ghost use Rattle.message.specs.Build.{Builds, searchTexts, byebyeTexts, locatedTexts, searchText, responseText, notifyText, byebyeText};
-ghost use Rattle.message.specs.Parse.{parsed};
-ghost use Rattle.message_c.specs.Numbers.{flatOf, numbersOf, builtOf};
+ghost use Rattle.message.specs.Parse.{answerOf, parsed};
+ghost use Rattle.message_c.specs.Numbers.{flatOf, messageNumbers, numbersOf, builtOf};
 use message::Message;
+use message::Parsed;
 use text::white::Place;
 
 // What `parse` answers: 1 alive, 2 byebye, 3 search, 4 response, or the refusal 7 or 8; then MX, and the start and length
 // of each of the message's fields in their order.
 #[repr(C)]
-pub struct Parsed {
+pub struct ParsedNumbers {
     pub kind: u32,
     pub mx: u32,
     pub first: usize,
@@ -27,10 +28,10 @@ pub struct Written {
     pub len: usize,
 }
 
-fn flat(kind: u32, mx: u8, a: Place, b: Place, c: Place) -> Parsed
+fn flat(kind: u32, mx: u8, a: Place, b: Place, c: Place) -> ParsedNumbers
     ensures { λ r. ⌜ r ≡ flatOf kind mx a b c ⌝ }
 {
-    Parsed {
+    ParsedNumbers {
         kind: kind,
         mx: mx as u32,
         first: a.start,
@@ -42,13 +43,11 @@ fn flat(kind: u32, mx: u8, a: Place, b: Place, c: Place) -> Parsed
     }
 }
 
-fn numbers_of(m: Message) -> Parsed
-    ensures { λ r. ⌜ r ≡ numbersOf m ⌝ }
+fn message_numbers(m: Message) -> ParsedNumbers
+    ensures { λ r. ⌜ r ≡ messageNumbers m ⌝ }
 {
     let none = Place { start: 0, len: 0 };
     match m {
-        Message::Empty => flat(7, 0, none, none, none),
-        Message::Invalid => flat(8, 0, none, none, none),
         Message::NotifyAlive {
             notification_type,
             unique_service_name,
@@ -70,8 +69,18 @@ fn numbers_of(m: Message) -> Parsed
     }
 }
 
+fn numbers_of(answer: Parsed) -> ParsedNumbers
+    ensures { λ r. ⌜ r ≡ numbersOf (answerOf answer) ⌝ }
+{
+    let none = Place { start: 0, len: 0 };
+    let Parsed::Message(m) = answer else {
+        return flat(message::refusal_of(answer), 0, none, none, none);
+    };
+    message_numbers(m)
+}
+
 #[no_mangle]
-pub extern "C" fn message_c_parse(datagram: &[u8]) -> Parsed
+pub extern "C" fn message_c_parse(datagram: &[u8]) -> ParsedNumbers
     ensures { λ r. ⌜ r ≡ numbersOf (parsed (now (datagram .entry))) ⌝ }
 {
     numbers_of(message::parse(datagram))

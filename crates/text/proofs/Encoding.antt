@@ -1,12 +1,12 @@
 -- Laws of UTF-8: lead bytes range by range, one byte of a text in each state of the check, and a text behind another.
 use mathlib.Core.Path.{_≡_, refl, sym, _∙_, ap}
-use mathlib.Core.Bool.{Bool, true, false, _&&_, and-eq-true-iff, false≢true, and-assoc, and-true, and-false}
+use mathlib.Core.Bool.{Bool, true, false, _&&_, _||_, and-eq-true-iff, false≢true, and-assoc, and-true, and-false}
 use mathlib.Core.List.{List, [], _∷_, _++_}
 use Prim.Native.Nat.{ℕ, zero, suc, _+_, _-_, _≤_, _<_}
 use native.Mathlib.Omega.{arith}
 use native.Mathlib.Numerals.{add-one}
-use borrow.Author.Tests.{eqb-true, le-leb, lt-leb, ltb-true, ltb-false}
-use lib.Dec.{T, eqb, leb, ltb}
+use borrow.Author.Tests.{eqb-true, le-leb, lt-leb, leb-true}
+use lib.Dec.{T, eqb, leb}
 use lib.ListN.{length, take, drop, getD, length-drop, drop-of-length-le}
 use lib.Seq.{drop-cons, drop-drop, getD-drop, take-length}
 use Rattle.text.specs.Range.{within, every}
@@ -38,29 +38,28 @@ pub nowhere : (b : ℕ) → within 1 0 b ≡ false
 nowhere zero = refl
 nowhere (suc b) = ap (_&&_ (leb 1 (suc b))) (lt-leb (suc b) 0 (omega arith)) ∙ and-false (leb 1 (suc b))
 
--- how many bytes follow a lead byte, by its range
-unfoldable expecting : ℕ → ℕ → Bool
-expecting tail b = eqb (leadOf b .tail) tail
+-- what a byte fixes as a lead byte: three bytes follow it at most, and none only if it is a character by itself
+unfoldable leading : ℕ → Bool
+leading b = leb (leadOf b .tail) 3 && (leb b 0x7F || leb 1 (leadOf b .tail))
 
-tail-of : (low n tail : ℕ) → T (all (expecting tail) low n) → (b : ℕ) → low ≤ b → b < low + n → leadOf b .tail ≡ tail
-unfolding expecting
-tail-of low n tail t b h g = eqb-true (leadOf b .tail) tail (is-true _ (span (expecting tail) n low t b h g))
+is-leading : (b : ℕ) → b < 0x100 → leading b ≡ true
+unfolding leading leadOf
+is-leading b h = is-true _ (span leading 0x100 0 tt b (omega arith) h)
 
-tail-one : (b : ℕ) → 0x7F < b → b < 0xE0 → leadOf b .tail ≡ 1
-unfolding expecting leadOf
-tail-one b h g = tail-of 0x80 0x60 1 tt b h g
+pub tail-most : (b : ℕ) {l : Lead} → b < 0x100 → l ≡ leadOf b → l .tail ≤ 3
+unfolding leading
+tail-most b {l} h e =
+    let t : leadOf b .tail ≤ 3 = leb-true (leadOf b .tail) 3 (and-eq-true-iff (leb (leadOf b .tail) 3) (leb b 0x7F || leb 1 (leadOf b .tail)) .0 (is-leading b h) .0) in
+    let q : l .tail ≡ leadOf b .tail = ap (λ (x : Lead). x .tail) e in
+    omega (arith, t, q)
 
-tail-two : (b : ℕ) → 0xE0 ≤ b → b < 0xF0 → leadOf b .tail ≡ 2
-unfolding expecting leadOf
-tail-two b h g = tail-of 0xE0 0x10 2 tt b h g
-
-tail-three : (b : ℕ) → 0xF0 ≤ b → b < 0xF5 → leadOf b .tail ≡ 3
-unfolding expecting leadOf
-tail-three b h g = tail-of 0xF0 5 3 tt b h g
-
-no-lead : (b : ℕ) → 0xF5 ≤ b → b < 0x100 → expects 1 1 0 ≡ leadOf b
-unfolding leads leadOf
-no-lead b h g = arm 0xF5 11 (expects 1 1 0) tt b h g
+pub no-tail : (b : ℕ) {l : Lead} → b < 0x100 → l ≡ leadOf b → l .tail ≡ 0 → b ≤ 0x7F
+unfolding leading
+no-tail b {l} h e z = go (leb b 0x7F) refl (and-eq-true-iff (leb (leadOf b .tail) 3) (leb b 0x7F || leb 1 (leadOf b .tail)) .0 (is-leading b h) .1)
+  where
+    go : (t : Bool) → leb b 0x7F ≡ t → (t || leb 1 (leadOf b .tail)) ≡ true → b ≤ 0x7F
+    go true u v = leb-true b 0x7F u
+    go false u v = absurd (let w : 1 ≤ leadOf b .tail = leb-true 1 (leadOf b .tail) v in let q : l .tail ≡ leadOf b .tail = ap (λ (x : Lead). x .tail) e in omega (arith, w, q, z))
 
 -- a character passes as a whole
 follows-rest : (k low high : ℕ) (s : List ℕ) → rest k low high s ≡ (follows k low high s && rest 0 0x80 0xBF (drop k s))
@@ -98,74 +97,48 @@ follows-more (suc k) low high (b ∷ s) h =
     ∙ sym (and-assoc (within low high b) (follows (suc k) 0x80 0xBF s) (within 0x80 0xBF (getD s (suc k) 0)))
 
 -- the answers of `has_one`, `has_two` and `has_three`
-module _ (s : List ℕ) (i : ℕ) where
-  pub tailed-short : (k : ℕ) → i < length s → length s - i < 1 + k → tailed k s i ≡ false
-  tailed-short k g h = follows-short k (leadOf (getD s i 0) .low) (leadOf (getD s i 0) .high) (drop (i + 1) s) (omega (arith, length-drop (i + 1) s))
+module _ (l : Lead) (s : List ℕ) (i : ℕ) where
+  pub tailed-short : (k : ℕ) → i < length s → length s - i < 1 + k → tailed k l s i ≡ false
+  tailed-short k g h = follows-short k (l .low) (l .high) (drop (i + 1) s) (omega (arith, length-drop (i + 1) s))
 
-  pub tailed-one : {l : Lead} → i + 1 < length s → l ≡ leadOf (getD s i 0) → within (l .low) (l .high) (getD s (i + 1) 0) ≡ tailed 1 s i
-  tailed-one {l} h e =
+  pub tailed-one : i + 1 < length s → within (l .low) (l .high) (getD s (i + 1) 0) ≡ tailed 1 l s i
+  tailed-one h =
       let z : i + 1 + 0 ≡ i + 1 = omega arith in
-      ap (λ (x : Lead). within (x .low) (x .high) (getD s (i + 1) 0)) e
-      ∙ ap (within (leadOf (getD s i 0) .low) (leadOf (getD s i 0) .high)) (sym (getD-drop (i + 1) s 0 0 ∙ ap (λ (m : ℕ). getD s m 0) z))
-      ∙ sym (follows-one (leadOf (getD s i 0) .low) (leadOf (getD s i 0) .high) (drop (i + 1) s) (omega (arith, length-drop (i + 1) s)))
+      ap (within (l .low) (l .high)) (sym (getD-drop (i + 1) s 0 0 ∙ ap (λ (m : ℕ). getD s m 0) z))
+      ∙ sym (follows-one (l .low) (l .high) (drop (i + 1) s) (omega (arith, length-drop (i + 1) s)))
 
-  pub tailed-more : (k : ℕ) {r : Bool} → i + (k + 2) < length s → r ≡ tailed (suc k) s i → (r && within 0x80 0xBF (getD s (i + (k + 2)) 0)) ≡ tailed (suc (suc k)) s i
+  pub tailed-more : (k : ℕ) {r : Bool} → i + (k + 2) < length s → r ≡ tailed (suc k) l s i → (r && within 0x80 0xBF (getD s (i + (k + 2)) 0)) ≡ tailed (suc (suc k)) l s i
   tailed-more k {r} h e =
       let z : i + 1 + suc k ≡ i + (k + 2) = omega arith in
       ap (λ (t : Bool). t && within 0x80 0xBF (getD s (i + (k + 2)) 0)) e
-      ∙ ap (λ (b : ℕ). tailed (suc k) s i && within 0x80 0xBF b) (sym (getD-drop (i + 1) s (suc k) 0 ∙ ap (λ (m : ℕ). getD s m 0) z))
-      ∙ sym (follows-more k (leadOf (getD s i 0) .low) (leadOf (getD s i 0) .high) (drop (i + 1) s) (omega (arith, length-drop (i + 1) s)))
+      ∙ ap (λ (b : ℕ). tailed (suc k) l s i && within 0x80 0xBF b) (sym (getD-drop (i + 1) s (suc k) 0 ∙ ap (λ (m : ℕ). getD s m 0) z))
+      ∙ sym (follows-more k (l .low) (l .high) (drop (i + 1) s) (omega (arith, length-drop (i + 1) s)))
 
--- r tells whether w bytes at place i of s are a character, where none of another width can be
+  -- an arm of `has_tail`
+  pub tailed-arm : (k : ℕ) {r : Bool} → l .tail ≡ k → r ≡ tailed k l s i → r ≡ tailed (l .tail) l s i
+  tailed-arm k e q = q ∙ ap (λ (m : ℕ). tailed m l s i) (sym e)
+
+-- r tells whether the w bytes at place i of s are the character that begins there
 pub record Character (s : List ℕ) (i w : ℕ) (r : Bool) : Type 0 where
   pub inside : r ≡ true → i + w ≤ length s
   pub decides : utf8 (drop i s) ≡ (r && utf8 (drop (i + w) s))
 
-module _ (s : List ℕ) (i : ℕ) (room : i < length s) where
-  after-lead : utf8 (drop i s) ≡ rest (leadOf (getD s i 0) .tail) (leadOf (getD s i 0) .low) (leadOf (getD s i 0) .high) (drop (i + 1) s)
+module _ (s : List ℕ) (i : ℕ) (room : i < length s) {l : Lead} (e : l ≡ leadOf (getD s i 0)) where
+  after-lead : utf8 (drop i s) ≡ rest (l .tail) (l .low) (l .high) (drop (i + 1) s)
   unfolding utf8 rest
-  after-lead = rw (add-one, drop-cons s i 0)
+  after-lead = rw (add-one, drop-cons s i 0) (ap (λ (x : Lead). rest (x .tail) (x .low) (x .high) (drop (suc i) s)) (sym e))
 
-  character : (k : ℕ) {r : Bool} → leadOf (getD s i 0) .tail ≡ k → r ≡ tailed k s i → Character s i (1 + k) r
+  -- the length is what the lead byte says
+  pub character : {r : Bool} → r ≡ tailed (l .tail) l s i → Character s i (1 + l .tail) r
   unfolding utf8
-  character k {r} e q = let z : i + 1 + k ≡ i + (1 + k) = omega arith in record {
-    inside = λ t. omega (arith, follows-le k (leadOf (getD s i 0) .low) (leadOf (getD s i 0) .high) (drop (i + 1) s) (sym q ∙ t), length-drop (i + 1) s);
+  character {r} q = let z : i + 1 + l .tail ≡ i + (1 + l .tail) = omega arith in record {
+    inside = λ t. omega (arith, follows-le (l .tail) (l .low) (l .high) (drop (i + 1) s) (sym q ∙ t), length-drop (i + 1) s);
     decides =
         after-lead
-        ∙ ap (λ (m : ℕ). rest m (leadOf (getD s i 0) .low) (leadOf (getD s i 0) .high) (drop (i + 1) s)) e
-        ∙ follows-rest k (leadOf (getD s i 0) .low) (leadOf (getD s i 0) .high) (drop (i + 1) s)
-        ∙ ap (λ (l : List ℕ). tailed k s i && utf8 l) (drop-drop k (i + 1) s ∙ ap (λ (m : ℕ). drop m s) z)
-        ∙ ap (λ (t : Bool). t && utf8 (drop (i + (1 + k)) s)) (sym q);
+        ∙ follows-rest (l .tail) (l .low) (l .high) (drop (i + 1) s)
+        ∙ ap (λ (m : List ℕ). tailed (l .tail) l s i && utf8 m) (drop-drop (l .tail) (i + 1) s ∙ ap (λ (m : ℕ). drop m s) z)
+        ∙ ap (λ (t : Bool). t && utf8 (drop (i + (1 + l .tail)) s)) (sym q);
   }
-
-  nothing-follows : (k : ℕ) (l : List ℕ) {x : Lead} → expects 1 1 0 ≡ x → follows (suc k) (x .low) (x .high) l ≡ false
-  unfolding follows
-  nothing-follows k [] e = refl
-  nothing-follows k (b ∷ l) e = ap (λ (x : Lead). within (x .low) (x .high) b && follows k 0x80 0xBF l) (sym e) ∙ ap (λ (t : Bool). t && follows k 0x80 0xBF l) (nowhere b)
-
-  -- the last branch of the check: four bytes, or a byte that begins no character
-  pub four : {r : Bool} → 0xF0 ≤ getD s i 0 → getD s i 0 < 0x100 → r ≡ tailed 3 s i → Character s i 4 r
-  unfolding utf8
-  four {r} h g q = go (ltb (getD s i 0) 0xF5) refl
-    where
-      go : (t : Bool) → ltb (getD s i 0) 0xF5 ≡ t → Character s i 4 r
-      go true u = character 3 (tail-three (getD s i 0) h (ltb-true (getD s i 0) 0xF5 u)) q
-      go false u =
-          let e : expects 1 1 0 ≡ leadOf (getD s i 0) = no-lead (getD s i 0) (ltb-false (getD s i 0) 0xF5 u) g in
-          let n : r ≡ false = q ∙ nothing-follows 2 (drop (i + 1) s) e in
-          record {
-            inside = λ t. absurd (false≢true (sym n ∙ t));
-            decides =
-                character 1 (ap (λ (x : Lead). x .tail) (sym e)) (sym (nothing-follows 0 (drop (i + 1) s) e)) .decides
-                ∙ ap (λ (t : Bool). t && utf8 (drop (i + 4) s)) (sym n);
-          }
-
-  -- the branches before it
-  pub two : {r : Bool} → 0x7F < getD s i 0 → getD s i 0 < 0xE0 → r ≡ tailed 1 s i → Character s i 2 r
-  two h g q = character 1 (tail-one (getD s i 0) h g) q
-
-  pub three : {r : Bool} → 0xE0 ≤ getD s i 0 → getD s i 0 < 0xF0 → r ≡ tailed 2 s i → Character s i 3 r
-  three h g q = character 2 (tail-two (getD s i 0) h g) q
 
 pub passed : {s : List ℕ} {i w : ℕ} {r : Bool} → Character s i w r → r ≡ true → utf8 (drop (i + w) s) ≡ utf8 (drop i s)
 passed {s} {i} {w} {r} k e = sym (k .decides ∙ ap (λ (t : Bool). t && utf8 (drop (i + w) s)) e)

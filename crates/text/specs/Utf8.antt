@@ -3,7 +3,7 @@ use Prim.Native.Nat.{ℕ, zero, suc, _+_}
 use mathlib.Core.Bool.{Bool, true, false, cond, _&&_}
 use mathlib.Core.List.{List, [], _∷_}
 use lib.Dec.{leb, eqb}
-use lib.ListN.{drop, getD}
+use lib.ListN.{drop}
 use Rattle.text.specs.Range.{within}
 use Rattle.text.specs.declared.utf8.Lead.{Lead}
 
@@ -46,6 +46,6 @@ follows zero low high s = true
 follows (suc tail) low high [] = false
 follows (suc tail) low high (b ∷ s) = within low high b && follows tail 0x80 0xBF s
 
--- `tail` bytes follow the lead byte at place i of s, as that asks of the first of them
-abbrev pub tailed : ℕ → List ℕ → ℕ → Bool
-tailed tail s i = follows tail (leadOf (getD s i 0) .low) (leadOf (getD s i 0) .high) (drop (i + 1) s)
+-- `tail` bytes follow the one at place i of s, the first of them in the range that `lead` has for it
+abbrev pub tailed : ℕ → Lead → List ℕ → ℕ → Bool
+tailed tail lead s i = follows tail (lead .low) (lead .high) (drop (i + 1) s)

@@ -75,42 +75,55 @@ fn ascii_end(s: &[u8], i: usize) -> usize
     k
 }
 
-// Whether one byte, two or three follow the lead byte at `i`, as that asks of the first of them.
-fn has_one(s: &[u8], i: usize) -> bool
+// Whether one byte, two or three follow the one at `i` that `lead` is about, the first of them in its range.
+fn has_one(s: &[u8], i: usize, lead: Lead) -> bool
     requires { ⌜ i < length (now s) ⌝ }
-    ensures { λ r. ⌜ r ≡ tailed 1 (now (s .entry)) i ⌝ }
+    ensures { λ r. ⌜ r ≡ tailed 1 lead (now (s .entry)) i ⌝ }
 {
     if s.len() - i < 2 {
         return false;
     }
-    let l = lead_of(s[i]);
     let b = s[i + 1];
-    (l.low <= b) & (b <= l.high)
+    (lead.low <= b) & (b <= lead.high)
 }
 
-fn has_two(s: &[u8], i: usize) -> bool
+fn has_two(s: &[u8], i: usize, lead: Lead) -> bool
     requires { ⌜ i < length (now s) ⌝ }
-    ensures { λ r. ⌜ r ≡ tailed 2 (now (s .entry)) i ⌝ }
+    ensures { λ r. ⌜ r ≡ tailed 2 lead (now (s .entry)) i ⌝ }
 {
     if s.len() - i < 3 {
         return false;
     }
     let b = s[i + 2];
-    has_one(s, i) & ((0x80 <= b) & (b <= 0xBF))
+    has_one(s, i, lead) & ((0x80 <= b) & (b <= 0xBF))
 }
 
-fn has_three(s: &[u8], i: usize) -> bool
+fn has_three(s: &[u8], i: usize, lead: Lead) -> bool
     requires { ⌜ i < length (now s) ⌝ }
-    ensures { λ r. ⌜ r ≡ tailed 3 (now (s .entry)) i ⌝ }
+    ensures { λ r. ⌜ r ≡ tailed 3 lead (now (s .entry)) i ⌝ }
 {
     if s.len() - i < 4 {
         return false;
     }
     let b = s[i + 3];
-    has_two(s, i) & ((0x80 <= b) & (b <= 0xBF))
+    has_two(s, i, lead) & ((0x80 <= b) & (b <= 0xBF))
 }
 
-// Whether a text is UTF-8. Each turn passes a character, or a run of those that are one byte.
+// Whether as many bytes follow the one at `i` as `lead` says, in its range.
+fn has_tail(s: &[u8], i: usize, lead: Lead) -> bool
+    requires { ⌜ (i < length (now s)) × (lead .tail ≤ 3) ⌝ }
+    ensures { λ r. ⌜ r ≡ tailed (lead .tail) lead (now (s .entry)) i ⌝ }
+{
+    let tail = lead.tail;
+    match tail {
+        0 => true,
+        1 => has_one(s, i, lead),
+        2 => has_two(s, i, lead),
+        _ => has_three(s, i, lead),
+    }
+}
+
+// Whether a text is UTF-8. Each turn passes a character, as long as its lead byte says, or a run of those that are one byte.
 pub fn is_utf8(s: &[u8]) -> bool
     ensures { λ r. ⌜ r ≡ utf8 (now (s .entry)) ⌝ }
 {
@@ -119,29 +132,15 @@ pub fn is_utf8(s: &[u8]) -> bool
     }
     let mut i = 0;
     while i < s.len() {
-        let b = s[i];
-        if b <= 0x7F {
+        let lead = lead_of(s[i]);
+        if lead.tail == 0 {
             i = ascii_end(s, i);
             continue;
         }
-        if b < 0xE0 {
-            if !has_one(s, i) {
-                return false;
-            }
-            i += 2;
-            continue;
-        }
-        if b < 0xF0 {
-            if !has_two(s, i) {
-                return false;
-            }
-            i += 3;
-            continue;
-        }
-        if !has_three(s, i) {
+        if !has_tail(s, i, lead) {
             return false;
         }
-        i += 4;
+        i += 1 + lead.tail as usize;
     }
     true
 }

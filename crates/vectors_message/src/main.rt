@@ -3,6 +3,7 @@
 // is: a letter, nine numbers of four digits, then bytes.
 use message::Built;
 use message::Message;
+use message::Parsed;
 use recorded::Tally;
 use text::white::Place;
 ghost use Prim.Native.Nat.{_<_};
@@ -37,11 +38,8 @@ fn is_kind(line: &[u8], kind: usize) -> bool {
     column(line, 1) == kind
 }
 
-fn is_parsed(line: &[u8], s: &[u8]) -> bool {
-    let m = message::parse(s);
+fn is_message(line: &[u8], m: Message) -> bool {
     match m {
-        Message::Empty => is_kind(line, 7),
-        Message::Invalid => is_kind(line, 8),
         Message::NotifyAlive {
             notification_type,
             unique_service_name,
@@ -75,6 +73,14 @@ fn is_parsed(line: &[u8], s: &[u8]) -> bool {
                 & is_place(line, 6, location)
         }
     }
+}
+
+fn is_parsed(line: &[u8], s: &[u8]) -> bool {
+    let answer = message::parse(s);
+    let Parsed::Message(m) = answer else {
+        return is_kind(line, message::refusal_of(answer) as usize);
+    };
+    is_message(line, m)
 }
 
 fn built_by(letter: u8, buf: &mut [u8], a: &[u8], b: &[u8], c: &[u8]) -> Built {

@@ -1,4 +1,5 @@
 -- `byebye_of` meets its contract: the fields are those of the headers that are there.
+use Rattle.message.specs.Parse.{reads}
 use Rattle.message.specs.declared.Message.the-variants.{NotifyByeBye}
 use Rattle.message.proofs.Reading.{given2}
 use borrow.Author.Needs.{needs}
@@ -24,7 +25,7 @@ returns-2 : tie.Need-returns-2
 returns-2 c = search needs
 
 returns-3 : tie.Need-returns-3
-returns-3 c = given2 NotifyByeBye (c .before .before .before .before .nt .given .1) (c .before .usn .given .1)
+returns-3 c = given2 (λ t u. reads (NotifyByeBye t u)) (c .before .before .before .before .nt .given .1) (c .before .usn .given .1)
 
 pub byebye-of-spec : {M : Type 1} → statement M
 byebye-of-spec =

@@ -1,4 +1,5 @@
 -- `response_of` meets its contract: the fields are those of the headers that are there.
+use Rattle.message.specs.Parse.{reads}
 use Rattle.message.specs.declared.Message.the-variants.{Response}
 use Rattle.message.proofs.Reading.{given3}
 use borrow.Author.Needs.{needs}
@@ -33,7 +34,7 @@ returns-3 : tie.Need-returns-3
 returns-3 c = search needs
 
 returns-4 : tie.Need-returns-4
-returns-4 c = given3 Response (c .before .before .before .before .before .before .before .st .given .1) (c .before .before .before .before .usn .given .1) (c .before .location .given .1)
+returns-4 c = given3 (λ t u l. reads (Response t u l)) (c .before .before .before .before .before .before .before .st .given .1) (c .before .before .before .before .usn .given .1) (c .before .location .given .1)
 
 pub response-of-spec : {M : Type 1} → statement M
 response-of-spec =

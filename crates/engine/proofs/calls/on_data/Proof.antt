@@ -1,12 +1,10 @@
--- `calls::on_data` meets its contract: refused by its time or as it cannot be read, or by what it comes to.
+-- `calls::on_data` meets its contract: refused by its time or as parse's answer holds no message, or by what the message is.
 use mathlib.Core.Path.{_∙_, _≡_, ap, sym}
 use mathlib.Core.List.{[]}
 use Rattle.engine.specs.Arrays.{numbersSize, searchBytes, engine, textsSize}
 use Rattle.engine.specs.Calls.{Datagram}
 use Rattle.engine.specs.Engine.{turned}
-use Rattle.engine.specs.Reading.{readingOf}
-use Rattle.engine.specs.declared.reading.Reading.the-variants.{Of}
-use Rattle.message.specs.Parse.{parseRefusal, parsed}
+use Rattle.message.specs.Parse.{ParseAnswer, answerOf, parsed, reads}
 use borrow.Author.Needs.{needs}
 use lib.ListN.{length}
 use native.Mathlib.Omega.{arith}
@@ -29,17 +27,11 @@ returns c links =
 parse-requires : tie.Need-parse-requires
 parse-requires c κs = search needs
 
-reading-of-requires : tie.Need-reading-of-requires
-reading-of-requires c κs = search needs
+enum-known-answer : tie.Need-enum-known-answer
+enum-known-answer c = search needs
 
-enum-known-read : tie.Need-enum-known-read
-enum-known-read c = search needs
-
-enum-told : tie.Need-enum-told
-enum-told c = search needs
-
-number-of-requires : tie.Need-number-of-requires
-number-of-requires c κs = search needs
+refusal-of-requires : tie.Need-refusal-of-requires
+refusal-of-requires c κs = search needs
 
 refused-requires-2 : tie.Need-refused-requires-2
 refused-requires-2 c κs = search needs
@@ -47,43 +39,37 @@ refused-requires-2 c κs = search needs
 returns-2 : tie.Need-returns-2
 unfolding turned
 returns-2 c links =
-    let at-enum-told = c .before .before .before .before .before in
-    let at-reading-of = at-enum-told .before .before in
-    let at-parse = at-reading-of .before in
+    let at-match = c .before .before .before .before .before in
+    let at-parse = at-match .before in
     let a = at-parse .before .before .before .args in
-    let p = at-parse .parse .ensures in
-    let none = hearing.unread (parsed (a .datagram .now)) (ap readingOf (sym p) ∙ sym (at-reading-of .reading-of .ensures) ∙ at-enum-told .enum-told .given .1) in
-    let number = c .before .number-of .ensures ∙ ap parseRefusal p in
-    lending.refused-answers (engine (a .head .now) links (a .searches .now) (a .numbers .now) (a .texts .now)) (Datagram (a .time) (a .sender) (a .receiver) (a .datagram .now)) [] _ (c .before .number-of .result)
+    let p = ap (λ (x : ParseAnswer). x .refusal) (at-parse .parse .ensures) in
+    let none : parsed (a .datagram .now) .refusal ≡ 0 → ⊥ = λ z. hearing.no-message (at-parse .parse .result) (at-match .match .keys2) (p ∙ z) in
+    let number = c .before .refusal-of .ensures ∙ p in
+    lending.refused-answers (engine (a .head .now) links (a .searches .now) (a .numbers .now) (a .texts .now)) (Datagram (a .time) (a .sender) (a .receiver) (a .datagram .now)) [] _ (c .before .refusal-of .result)
     (hearing.unread-refusal _ _ (a .time) (a .sender) (a .receiver) (a .datagram .now) (omega arith) none ∙ sym number) (λ z. none (sym number ∙ z))
     (c .refused2 .ensures links _ _)
 
-enum-known-subject : tie.Need-enum-known-subject
-enum-known-subject c = search needs
+enum-known-said : tie.Need-enum-known-said
+enum-known-said c = search needs
 
 on-search-requires : tie.Need-on-search-requires
 on-search-requires c κs =
-    let at-subject = c .before .before .before .before in
-    let at-read = at-subject .before .before .before in
-    let at-reading-of = at-read .before .before in
-    let at-parse = at-reading-of .before in
+    let at-said = c .before .before .before .before in
+    let at-answer = at-said .before .before .before in
+    let at-parse = at-answer .before .before in
     let a = at-parse .before .before .before .args in
     let numbers : length (a .numbers .now) ≡ numbersSize = omega arith in
     let texts : length (a .texts .now) ≡ textsSize = omega arith in
-    (omega arith, (numbers, texts), omega arith, hearing.search-read _ _ _ (ap readingOf (sym (at-parse .parse .ensures)) ∙ sym (at-reading-of .reading-of .ensures) ∙ at-read .read .given .1 ∙ ap Of (at-subject .subject .given .1)))
-
-enum-known-subject-2 : tie.Need-enum-known-subject-2
-enum-known-subject-2 c = search needs
+    (omega arith, (numbers, texts), omega arith, sym (at-parse .parse .ensures) ∙ ap answerOf (at-answer .answer .given .1) ∙ ap reads (at-said .said .given .1))
 
 on-notice-requires : tie.Need-on-notice-requires
 on-notice-requires c κs =
-    let at-subject2 = c .before .before .before .before .before in
-    let at-read = at-subject2 .before .before .before in
-    let at-reading-of = at-read .before .before in
-    let at-parse = at-reading-of .before in
+    let at-match2 = c .before .before .before .before in
+    let at-answer = at-match2 .before .before in
+    let at-parse = at-answer .before .before in
     let a = at-parse .before .before .before .args in
     let searches : length (a .searches .now) ≡ searchBytes = omega arith in
-    ((omega arith, searches), omega arith, omega arith, ap readingOf (sym (at-parse .parse .ensures)) ∙ sym (at-reading-of .reading-of .ensures) ∙ at-read .read .given .1 ∙ ap Of (at-subject2 .subject2 .given .1))
+    ((omega arith, searches), omega arith, omega arith, sym (at-parse .parse .ensures) ∙ ap answerOf (at-answer .answer .given .1), hearing.no-search (at-answer .answer .given .1) (at-match2 .match2 .keys2))
 
 returns-3 : tie.Need-returns-3
 returns-3 c links = c .on-search .ensures links _
@@ -98,15 +84,12 @@ on-data-spec =
     refused-requires
     returns
     parse-requires
-    reading-of-requires
-    enum-known-read
-    enum-told
-    number-of-requires
+    enum-known-answer
+    refusal-of-requires
     refused-requires-2
     returns-2
-    enum-known-subject
+    enum-known-said
     on-search-requires
-    enum-known-subject-2
     on-notice-requires
     returns-3
     returns-4)

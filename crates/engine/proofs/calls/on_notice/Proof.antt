@@ -1,5 +1,5 @@
 -- `calls::on_notice` meets its contract: nothing changes, and the subscriptions that match are told.
-use mathlib.Core.Path.{_∙_, ap, sym}
+use mathlib.Core.Path.{_∙_, ap, subst, sym}
 use mathlib.Core.List.{List}
 use Prim.Native.Nat.{ℕ}
 use Rattle.engine.specs.Arrays.{held, linksIn, namesIn, searchesIn, seedIn, engine, timerIn}
@@ -7,16 +7,20 @@ use Rattle.engine.specs.Calls.{Act, Datagram, acts}
 use Rattle.engine.specs.Engine.{tells, tellsAbout, turned}
 use Rattle.engine.specs.Held.{holding}
 use Rattle.engine.specs.Links.{contextAfter}
+use Rattle.engine.specs.Reading.{typeOf}
 use Rattle.engine.specs.Records.{records}
 use Rattle.engine.specs.Replies.{results}
 use Rattle.engine.specs.Tallies.{tellsMask}
-use Rattle.message.specs.Parse.{parsed}
+use Rattle.message.specs.Parse.{fieldAt}
 use borrow.Author.Needs.{needs}
 use Rattle.engine.proofs.Answering as answering
 use Rattle.engine.proofs.Hearing as hearing
 use Rattle.engine.proofs.Lending as lending
 use Rattle.engine.proofs.calls.on_notice.Statement.{statement}
 use Rattle.engine.proofs.calls.on_notice.Tie as tie
+
+type-of-requires : tie.Need-type-of-requires
+type-of-requires c κs = search needs
 
 field-requires : tie.Need-field-requires
 field-requires c κs = search needs
@@ -34,24 +38,26 @@ returns : tie.Need-returns
 unfolding turned held contextAfter acts results records tells
 returns c links texts =
     let at-field = c .before .before .before in
-    let start = at-field .before .before .before .before .before in
+    let at-type-of = at-field .before in
+    let start = at-type-of .before .before .before .before .before in
     let a = start .args in
     let head = a .head .now in
     let names = namesIn head (a .numbers .now) texts in
     let subs = searchesIn head (a .searches .now) in
-    let m = hearing.notice-read (a .datagram .now) (parsed (a .datagram .now)) (a .kind) (start .pre .3) in
+    let m = subst (hearing.Noticed (a .datagram .now) (typeOf (a .said))) (sym (start .pre .3)) (hearing.notice-read (a .datagram .now) (a .said) (start .pre .4)) in
     let none = sym (m .asking (a .time) (a .sender) (a .receiver)) in
-    lending.done-answers (engine (a .head .now) links (a .searches .now) (a .numbers .now) texts) (engine (a .head .now) links (a .searches .now) (a .numbers .now) texts) (Datagram (a .time) (a .sender) (a .receiver) (a .datagram .now)) 0 _ _ (hearing.notice-refusal _ _ (a .time) (a .sender) (a .receiver) (a .datagram .now) (a .kind) (start .pre .2) m)
+    lending.done-answers (engine (a .head .now) links (a .searches .now) (a .numbers .now) texts) (engine (a .head .now) links (a .searches .now) (a .numbers .now) texts) (Datagram (a .time) (a .sender) (a .receiver) (a .datagram .now)) 0 _ _ (hearing.notice-refusal _ _ (a .time) (a .sender) (a .receiver) (a .datagram .now) (typeOf (a .said)) (start .pre .2) m)
     (ap (λ (l : List Act). holding (seedIn head) (timerIn head) (linksIn head links) subs (results (seedIn head) names l .advertisements)) none)
     (c .before .telling .ensures .0 ∙ ap (λ (l : List Act). results (seedIn head) names l .counts) none)
     (c .before .telling .ensures .1 ∙ ap (λ (x : ℕ). tellsMask x (c .before .before .told-of .result .told)) (c .before .before .told-of .ensures .mask) ∙ ap (tellsMask _) (c .before .before .told-of .ensures .told)
-    ∙ ap (tellsAbout subs) (at-field .field .ensures) ∙ sym (m .telling subs))
+    ∙ ap (tellsAbout subs) (at-field .field .ensures ∙ ap (fieldAt (a .datagram .now)) (at-type-of .type-of .ensures)) ∙ sym (m .telling subs))
     answering.sent-none (c .accepted .ensures links _ texts)
 
 pub on-notice-spec : {M : Type 1} → statement M
 on-notice-spec =
     tie.close
     (tie.spec
+    type-of-requires
     field-requires
     told-of-requires
     telling-requires

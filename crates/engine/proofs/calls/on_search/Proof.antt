@@ -12,8 +12,7 @@ use Rattle.engine.specs.Refusals.{checks, searchChecks}
 use Rattle.engine.specs.Replies.{result, results}
 use Rattle.engine.specs.Tallies.{asks}
 use Rattle.message.specs.Build.{typeMax}
-use Rattle.message.specs.Parse.{fieldAt, parsed}
-use Rattle.message.specs.declared.Message.{Message}
+use Rattle.message.specs.Parse.{ParseAnswer, fieldAt, parsed}
 use borrow.Author.Needs.{needs}
 use borrow.Author.Tests.{ltb-false}
 use lib.ListN.{length}
@@ -58,7 +57,7 @@ searched-requires c κs =
     let t = engine (a .head .now) [] [] (a .numbers .now) (a .texts .now) in
     let call = Datagram (a .time) (a .sender) (a .receiver) (a .datagram .now) in
     let p = passed (held t .context) (namesOf (held t) call) call (sym (at-of-search .of-search .ensures _ _ (a .sender) (a .receiver) (a .datagram .now) (a .place) (start .pre .3) (sym (ap length (at-field .field .ensures)))) ∙ at-if1 .if1 .left) in
-    let q = subst (λ (m : Message). Passed (searchChecks (a .datagram .now) m)) (start .pre .3) (p .1 .1) in
+    let q = subst (λ (p : ParseAnswer). Passed (searchChecks (a .datagram .now) (p .message))) (start .pre .3) (p .1 .1) in
     (start .pre .0, start .pre .1, omega (arith, ltb-false typeMax (length (fieldAt (a .datagram .now) (a .place))) (q .1 .0), ap length (at-field .field .ensures)), start .pre .2)
 
 asking-requires : tie.Need-asking-requires
@@ -91,8 +90,8 @@ returns-2 c links searches =
     let seed = seedIn head in
     let query : Text → Query = λ t. record { target = t; mx = a .mx; sender = a .sender; receiver = a .receiver; time = a .time } in
     let q = query (fieldAt (a .datagram .now) (a .place)) in
-    let does : asked-by (a .time) (a .sender) (a .receiver) (a .datagram .now) (parsed (a .datagram .now)) ≡ Asks q ∷ [] =
-    ap (asked-by (a .time) (a .sender) (a .receiver) (a .datagram .now)) (start .pre .3)
+    let does : asked-by (a .time) (a .sender) (a .receiver) (a .datagram .now) (parsed (a .datagram .now) .message) ≡ Asks q ∷ [] =
+    ap (λ (p : ParseAnswer). asked-by (a .time) (a .sender) (a .receiver) (a .datagram .now) (p .message)) (start .pre .3)
     in
     let at = at-seed-in .seed-in .ensures in
     let f = at-field .field .ensures in
@@ -103,7 +102,7 @@ returns-2 c links searches =
     (c .before .asking .ensures .0 ∙ (λ i. asks (r .matched i) (r .joined i))
     ∙ (λ i. asks (result (at i) names (Asks (query (f i))) .counts .matched) (result (at i) names (Asks (query (f i))) .counts .joined))
     ∙ sym (answering.plus-zeros (result seed names (Asks q) .counts)) ∙ ap (λ (l : List Act). results seed names l .counts) (sym does))
-    (c .before .asking .ensures .1 ∙ sym (ap (tellsOf (searchesIn head searches) (a .datagram .now)) (start .pre .3)))
+    (c .before .asking .ensures .1 ∙ sym (ap (λ (p : ParseAnswer). tellsOf (searchesIn head searches) (a .datagram .now) (p .message)) (start .pre .3)))
     answering.sent-none (c .accepted .ensures links searches _)
 
 pub on-search-spec : {M : Type 1} → statement M

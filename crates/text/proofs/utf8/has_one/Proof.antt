@@ -1,4 +1,4 @@
--- `utf8::has_one`: too few bytes, and a byte in the range that the lead byte gives or not.
+-- `utf8::has_one`: too few bytes, and a byte in the range or not.
 use mathlib.Core.Path.{sym}
 use borrow.Author.Needs.{needs}
 use native.Mathlib.Omega.{arith}
@@ -10,13 +10,7 @@ sub-if1 : tie.Need-sub-if1
 sub-if1 c = search needs
 
 returns : tie.Need-returns
-returns c = sym (laws.tailed-short (c .before .before .args .s .now) (c .before .before .args .i) 1 (omega arith) (omega arith))
-
-shared-slice-read-lead-of : tie.Need-shared-slice-read-lead-of
-shared-slice-read-lead-of c = search needs
-
-lead-of-requires : tie.Need-lead-of-requires
-lead-of-requires c κs = search needs
+returns c = sym (laws.tailed-short (c .before .args .lead) (c .before .args .s .now) (c .before .args .i) 1 (omega arith) (omega arith))
 
 add-b : tie.Need-add-b
 add-b c = search needs
@@ -25,7 +19,7 @@ shared-slice-read-b : tie.Need-shared-slice-read-b
 shared-slice-read-b c = search needs
 
 returns-2 : tie.Need-returns-2
-returns-2 c = laws.tailed-one (c .before .before .before .before .before .before .before .args .s .now) (c .before .before .before .before .before .before .before .args .i) (omega arith) (c .before .before .before .lead-of .ensures)
+returns-2 c = laws.tailed-one (c .before .before .before .before .args .lead) (c .before .before .before .before .args .s .now) (c .before .before .before .before .args .i) (omega arith)
 
 pub has-one-spec : {M : Type 1} → statement M
 has-one-spec =
@@ -33,8 +27,6 @@ has-one-spec =
     (tie.spec
     sub-if1
     returns
-    shared-slice-read-lead-of
-    lead-of-requires
     add-b
     shared-slice-read-b
     returns-2)

@@ -10,7 +10,7 @@ sub-if1 : tie.Need-sub-if1
 sub-if1 c = search needs
 
 returns : tie.Need-returns
-returns c = sym (laws.tailed-short (c .before .before .args .s .now) (c .before .before .args .i) 2 (omega arith) (omega arith))
+returns c = sym (laws.tailed-short (c .before .before .args .lead) (c .before .before .args .s .now) (c .before .before .args .i) 2 (omega arith) (omega arith))
 
 add-b : tie.Need-add-b
 add-b c = search needs
@@ -22,7 +22,7 @@ has-one-requires : tie.Need-has-one-requires
 has-one-requires c κs = search needs
 
 returns-2 : tie.Need-returns-2
-returns-2 c = laws.tailed-more (c .before .before .before .before .args .s .now) (c .before .before .before .before .args .i) 0 (omega arith) (c .has-one .ensures)
+returns-2 c = laws.tailed-more (c .before .before .before .before .args .lead) (c .before .before .before .before .args .s .now) (c .before .before .before .before .args .i) 0 (omega arith) (c .has-one .ensures)
 
 pub has-two-spec : {M : Type 1} → statement M
 has-two-spec =

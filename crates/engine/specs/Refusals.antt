@@ -8,6 +8,7 @@ use lib.ListN.{length}
 use Rattle.text.specs.Good.{goodText}
 use Rattle.message.specs.Parse.{parsed, fieldAt}
 use Rattle.message.specs.Build.{typeMax, nameMax}
+use Rattle.message.specs.Refusals.{textOverSize, textNotGood}
 use Rattle.message.specs.declared.Message.{Message}
 use Rattle.message.specs.declared.Message.the-variants.{NotifyAlive, NotifyByeBye, Search, Response}
 use Rattle.engine.specs.Sizes.{timeMax, advertisementsMax, subscriptionsMax, linksMax, addressesMax, locationMax}
@@ -17,7 +18,7 @@ use Rattle.engine.specs.Held.{Text, Link, Context, byIndex}
 use Rattle.engine.specs.Calls.{Call, NewLink, DeletedLink, NewAddress, DeletedAddress, Subscribe, Advertise, Deadvertise, Refresh, Datagram, Timeout, ResetTimer}
 use Rattle.engine.specs.Links.{addressesOf, linkAt, stores, isV4, isV6}
 
--- ---- document 01's numbers; 3 and 4 are the message crate's too, 6 is its alone, and 7 and 8 are those of `parse`
+-- ---- document 01's numbers; 3, 4 and 6 to 8 are the message crate's
 -- time above 2^63 − 1
 abbrev pub timeLate : ℕ
 timeLate = 1
@@ -25,14 +26,6 @@ timeLate = 1
 -- outbox under 62,880 bytes
 abbrev pub outboxShort : ℕ
 outboxShort = 2
-
--- a text over its size
-abbrev pub textOverSize : ℕ
-textOverSize = 3
-
--- a text not UTF-8, holding byte 10 or 13, or starting or ending in white space
-abbrev pub textNotGood : ℕ
-textNotGood = 4
 
 -- ninth name or fifth subscription
 abbrev pub tableFull : ℕ

@@ -38,7 +38,7 @@ pub struct Tally {
 }
 
 // A call that counts nothing and tells nobody.
-pub fn nothing() -> Tally
+pub(crate) fn nothing() -> Tally
     ensures { λ r. ⌜ (counted r ≡ zeros) × (toldBy r ≡ tellsNobody) ⌝ }
 {
     Tally {
@@ -54,7 +54,7 @@ pub fn nothing() -> Tally
 }
 
 // A link was deleted: its leave outcome, if it was held.
-pub fn leaving(held: bool, outcome: u32) -> Tally
+pub(crate) fn leaving(held: bool, outcome: u32) -> Tally
     ensures { λ r. ⌜ (counted r ≡ zeros) × (toldBy r ≡ leaves (cond held outcome 0)) ⌝ }
 {
     let leave = if held { outcome } else { 0 };
@@ -71,7 +71,7 @@ pub fn leaving(held: bool, outcome: u32) -> Tally
 }
 
 // A name was replaced or has left, and its waiting reply with it.
-pub fn dropping(dropped: usize) -> Tally
+pub(crate) fn dropping(dropped: usize) -> Tally
     ensures { λ r. ⌜ (counted r ≡ drops dropped) × (toldBy r ≡ tellsNobody) ⌝ }
 {
     Tally {
@@ -87,7 +87,7 @@ pub fn dropping(dropped: usize) -> Tally
 }
 
 // Replies were sent, alone and to the group.
-pub fn sending(alone: usize, group: usize) -> Tally
+pub(crate) fn sending(alone: usize, group: usize) -> Tally
     ensures { λ r. ⌜ (counted r ≡ sends alone group) × (toldBy r ≡ tellsNobody) ⌝ }
 {
     Tally {
@@ -103,7 +103,7 @@ pub fn sending(alone: usize, group: usize) -> Tally
 }
 
 // A search matched, and joined replies that wait.
-pub fn asking(matched: usize, joined: usize) -> Tally
+pub(crate) fn asking(matched: usize, joined: usize) -> Tally
     ensures { λ r. ⌜ (counted r ≡ asks matched joined) × (toldBy r ≡ tellsNobody) ⌝ }
 {
     Tally {
@@ -119,7 +119,7 @@ pub fn asking(matched: usize, joined: usize) -> Tally
 }
 
 // Subscriptions are told.
-pub fn telling(s: Subscribers) -> Tally
+pub(crate) fn telling(s: Subscribers) -> Tally
     ensures { λ r. ⌜ (counted r ≡ zeros) × (toldBy r ≡ tellsMask (s .mask) (s .told)) ⌝ }
 {
     Tally {

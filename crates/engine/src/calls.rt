@@ -35,6 +35,7 @@ use crate::sizes::NAME_COUNT;
 use crate::sizes::Numbers;
 use crate::sizes::SEARCH_COUNT;
 use crate::sizes::Searches;
+use crate::sizes::TIME_MAX;
 use crate::sizes::Texts;
 use crate::source::of_up_links;
 use crate::subscription;
@@ -113,7 +114,9 @@ fn refused(head: &[u64], numbers: &[u64], number: u32) -> Answer
     }
 }
 
-// The owner's first call, on arrays of any content. A time that no call may bear is refused, and leaves an engine with that seed at time 0.
+// The owner's first call, on arrays of any content, with a random seed, by which units spread their delays. Each answer's `poll` is the instant to call
+// `handle_timeout` at; the owner sets its timer by it after every call, refused ones too. A time that no call may bear is refused, and leaves an engine with
+// that seed at time 0, with which the owner may go on.
 pub fn new(head: &mut Head, numbers: &Numbers, random_seed: u32, time: u64) -> Answer
     ensures { λ r. ⌜ ((links searches texts : List ℕ) → Begins «random_seed» time (answered (engine (now (head .exit)) links searches (now (numbers .entry)) texts) r)) ⌝ }
 {
@@ -127,7 +130,7 @@ pub fn new(head: &mut Head, numbers: &Numbers, random_seed: u32, time: u64) -> A
     accepted(head, numbers, 0, nothing())
 }
 
-// Begins the refresh salvos anew, as after the network was away.
+// Begins the refresh salvos anew: for an owner whose network or clock was away. What waits keeps its instants.
 pub fn reset_refresh_timer(head: &mut Head, numbers: &Numbers, time: u64) -> Answer
     ensures { λ r. ⌜ ((links searches texts : List ℕ) → Answers (engine (now (head .entry)) links searches (now (numbers .entry)) texts) (ResetTimer time) [] [] (answered (engine (now (head .exit)) links searches (now (numbers .entry)) texts) r)) ⌝ }
 {
@@ -141,7 +144,8 @@ pub fn reset_refresh_timer(head: &mut Head, numbers: &Numbers, time: u64) -> Ans
     accepted(head, numbers, 0, nothing())
 }
 
-// Sends all announcements, then the searches.
+// Sends all announcements, then the searches: for an owner that wants them before the next salvo, whose instant stays. As in every call that is lent an outbox, the
+// owner sends the records that the answer counts, in their order, before the next call.
 pub fn refresh(
     head: &Head,
     links: &Links,
@@ -162,7 +166,8 @@ pub fn refresh(
     accepted(head, numbers, k, nothing())
 }
 
-// Searches for a type, now and at each refresh; notices of it are told of from now on.
+// Searches for a type, now and at each refresh. From now on the mask of a datagram's answer has this subscription's bit where the datagram concerns it: bit k for the
+// k-th `subscribe`, from 0.
 pub fn subscribe(
     head: &mut Head,
     links: &Links,
@@ -186,7 +191,7 @@ pub fn subscribe(
     accepted(head, numbers, k, nothing())
 }
 
-// A link has gone; `outcome` is the host's from leaving the group on it, and is answered for a link that was held.
+// A link has gone, with its addresses. The owner leaves the group on it and hands in the outcome, 0 or its error, which is answered where the link was held.
 pub fn deleted_link(
     head: &mut Head,
     links: &mut Links,
@@ -206,7 +211,7 @@ pub fn deleted_link(
     accepted(head, numbers, 0, leaving(spot.known, outcome))
 }
 
-// An address has gone.
+// An address has gone from a link; nothing is sent from it any more, but for lone replies to searches that reached it.
 pub fn deleted_address(
     head: &mut Head,
     links: &mut Links,
@@ -226,7 +231,8 @@ pub fn deleted_address(
     accepted(head, numbers, 0, nothing())
 }
 
-// A link is there, or is up or down. The host has tried to join the group on a new one and hands in the outcome.
+// A link is there, or its flags have changed. For one that is not held the owner first joins the group on it and hands in the outcome, 0 or its error; for a held one the
+// outcome is not looked at. A link that turns up sends what a refresh would, from its addresses.
 pub fn new_link(
     head: &mut Head,
     links: &mut Links,
@@ -270,7 +276,7 @@ pub fn new_link(
     accepted(head, numbers, k, nothing())
 }
 
-// An address is there.
+// An address is on a link. Where the link is up, what a refresh would send goes out from it at once.
 pub fn new_address(
     head: &mut Head,
     links: &mut Links,
@@ -404,7 +410,7 @@ fn leave(head: &[u64], numbers: &mut [u64], texts: &mut [u8], spot: Spot) -> usi
     n
 }
 
-// Says that a service has gone. An unknown name does nothing.
+// Says that a service has gone, and drops its waiting reply. An unknown name does nothing. An owner that ends does this for each of its names.
 pub fn deadvertise(
     head: &mut Head,
     links: &Links,
@@ -427,7 +433,8 @@ pub fn deadvertise(
     accepted(head, numbers, k, dropping(dropped))
 }
 
-// Sends the refresh records, if the salvo is due, and the replies that are due. Before the instant to be polled at nothing is due, and nothing is done.
+// The owner's timer has come: sends the refresh records, if the salvo is due, and the replies that are due. Called early, or without need, it does nothing; called late, it
+// sends what has become due meanwhile, one salvo at most, and `poll` says when the next is due, which may be at once. A clock that went back does no harm.
 pub fn handle_timeout(
     head: &mut Head,
     links: &Links,
@@ -519,7 +526,8 @@ fn on_notice(
     accepted(head, numbers, 0, telling(told))
 }
 
-// A datagram has come from `sender`, at the address `receiver`.
+// A datagram has come from `sender` to the owner's address `receiver` (for one sent to the group, an address of the link it came by). Nothing is sent: replies wait until
+// `handle_timeout`, and `poll` says when.
 pub fn on_data(
     head: &Head,
     searches: &Searches,
@@ -532,7 +540,7 @@ pub fn on_data(
 ) -> Answer
     ensures { λ r. ⌜ ((links : List ℕ) → Answers (engine (now (head .entry)) links (now (searches .entry)) (now (numbers .entry)) (now (texts .entry))) (Datagram time sender receiver (now (datagram .entry))) [] [] (answered (engine (now (head .entry)) links (now (searches .entry)) (now (numbers .exit)) (now (texts .exit))) r)) ⌝ }
 {
-    if refusals::TIME_MAX < time {
+    if TIME_MAX < time {
         return refused(head, numbers, refusals::TIME_LATE);
     }
     let answer = message::parse(datagram);

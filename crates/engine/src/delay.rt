@@ -14,7 +14,7 @@ fn window_of(mx: u8) -> u32
 }
 
 // The delay of a reply. Without a window there is nothing to spread; no accepted search has `mx` 0.
-pub fn delay_of(seed: u32, mx: u8) -> u64
+pub(crate) fn delay_of(seed: u32, mx: u8) -> u64
     ensures { λ r. ⌜ r ≡ delay seed mx ⌝ }
 {
     let window = window_of(mx);

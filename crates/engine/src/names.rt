@@ -51,8 +51,8 @@ ghost use Rattle.engine.specs.Shifts.{movedUp};
 ghost use Rattle.engine.specs.Arrays.{headPlaces, numbersWidth, numbersSize, textsWidth, textsSize, answerPlace, textIn, replyOf, replyIn, replyAt, entryIn, entryAt, entries, nameCount, namesIn, NameArrays};
 ghost use Rattle.engine.specs.Changes.{changeAt, blank, withActive, Replied, Answered, NewNumbers, NewTexts, Filled};
 
-// What searches and timeouts change of an advertisement: its waiting reply, and beside it the type of the answer to a lone searcher. A step takes it out of
-// the table, changes it and puts it back; name, type and location stay in their row.
+// What searches and timeouts change of an advertisement: its waiting reply, and beside it the type of the answer to a lone searcher. A search puts one in where a
+// reply opens, a timeout takes it out to send it; a step that needs the reply alone takes that. Name, type and location stay in their row.
 pub struct ActiveAdvertisement {
     pub response_needed: ResponseNeeded,
     pub answer: [u8; TYPE_SIZE],

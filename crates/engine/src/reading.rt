@@ -5,7 +5,7 @@ ghost use mathlib.Core.Path.{_≡_};
 ghost use Rattle.engine.specs.Reading.{typeOf};
 
 // Where the type of a notify or response stands, its NT or ST, or the target of a search.
-pub fn type_of(said: Message) -> Place
+pub(crate) fn type_of(said: Message) -> Place
     ensures { λ r. ⌜ r ≡ typeOf said ⌝ }
 {
     match said {

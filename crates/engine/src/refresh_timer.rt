@@ -1,12 +1,11 @@
 // The timer of the refresh salvos: document 01, 'Refresh timer'. It is handed round by value, or lent by its owner (`update_refresh`).
 // The contracts cite specs/RefreshTimer.antt.
+use crate::refusals::TIME_LATE;
+use crate::sizes::TIME_MAX;
 ghost use mathlib.Core.Path.{_≡_};
 ghost use Prim.Native.Nat.{_≤_};
 ghost use Rattle.engine.specs.Sizes.{timeMax};
 ghost use Rattle.engine.specs.RefreshTimer.{timeRefusal, seedByte, period, timerNew, timerStep, answerFor, newAnswer, resetAnswer, updateAnswer};
-
-// The largest time that a call may bear, in milliseconds.
-pub const TIME_MAX: u64 = 9223372036854775807;
 
 pub struct RefreshTimer {
     pub random_seed: u32,
@@ -63,7 +62,7 @@ pub(crate) fn stepped(timer: RefreshTimer, time: u64) -> RefreshTimer
 pub fn time_refusal(time: u64) -> u32
     ensures { λ r. ⌜ r ≡ timeRefusal time ⌝ }
 {
-    if time <= TIME_MAX { 0 } else { 1 }
+    if time <= TIME_MAX { 0 } else { TIME_LATE }
 }
 
 // The timer after `updated`.
@@ -87,7 +86,7 @@ fn answer_for(time: u64, refused: RefreshTimer, accepted: RefreshTimer) -> Timer
         };
     }
     TimerAnswer {
-        refusal: 1,
+        refusal: TIME_LATE,
         timer: refused,
     }
 }

@@ -7,7 +7,10 @@ use crate::sizes::NAME_SIZE;
 use crate::sizes::NAMES;
 use crate::sizes::OUTBOX_SIZE;
 use crate::sizes::SUBSCRIPTIONS;
+use crate::sizes::TIME_MAX;
 use crate::sizes::TYPE_SIZE;
+use message::build::TEXT_NOT_GOOD;
+use message::build::TEXT_OVER_SIZE;
 use text::good;
 ghost use mathlib.Core.Path.{_≡_};
 ghost use Prim.Native.Nat.{ℕ};
@@ -26,14 +29,10 @@ ghost use Rattle.text.specs.declared.white.Place.{Place};
 ghost use Rattle.engine.specs.declared.advertisement.Endpoint.{Endpoint};
 ghost use Rattle.engine.specs.Refusals.{Names, refusal, newRefusal};
 
-// The numbers, by what each refuses.
+// The numbers, by what each refuses. Those of texts are the message crate's.
 pub const TIME_LATE: u32 = 1;
 
 pub const OUTBOX_SHORT: u32 = 2;
-
-pub const TEXT_OVER_SIZE: u32 = 3;
-
-pub const TEXT_NOT_GOOD: u32 = 4;
 
 pub const TABLE_FULL: u32 = 5;
 
@@ -49,8 +48,6 @@ pub const LINKS_FULL: u32 = 13;
 
 pub const JOIN_FAILED: u32 = 14;
 
-pub const TIME_MAX: u64 = 9223372036854775807;
-
 // The number, if the test fails; else the rest's.
 fn first(fails: bool, number: u32, rest: u32) -> u32
     ensures { λ r. ⌜ r ≡ cond fails number rest ⌝ }
@@ -59,7 +56,7 @@ fn first(fails: bool, number: u32, rest: u32) -> u32
 }
 
 // `advertise`, where the name is held or not among `count` names.
-pub fn of_advertise(
+pub(crate) fn of_advertise(
     held: bool,
     count: usize,
     room: usize,
@@ -80,7 +77,7 @@ pub fn of_advertise(
 }
 
 // `subscribe`, where `count` subscriptions are held.
-pub fn of_subscribe(count: usize, room: usize, kind: &[u8]) -> u32
+pub(crate) fn of_subscribe(count: usize, room: usize, kind: &[u8]) -> u32
     ensures { λ r. ⌜ ((x : Context) (n : Names) → length (x .subscriptions) ≡ count → n .need ≡ outboxSize → r ≡ refusal x n (Subscribe (now (kind .entry)) room)) ⌝ }
 {
     let full = first(SUBSCRIPTIONS <= count, TABLE_FULL, 0);
@@ -90,21 +87,21 @@ pub fn of_subscribe(count: usize, room: usize, kind: &[u8]) -> u32
 }
 
 // `deadvertise` and `refresh`, which look at the outbox alone.
-pub fn of_room(room: usize) -> u32
+pub(crate) fn of_room(room: usize) -> u32
     ensures { λ r. ⌜ ((x : Context) (n : Names) → n .need ≡ outboxSize → (r ≡ refusal x n (Refresh room)) × ((name : Text) → r ≡ refusal x n (Deadvertise name room))) ⌝ }
 {
     first(room < OUTBOX_SIZE, OUTBOX_SHORT, 0)
 }
 
 // `new` and `reset_refresh_timer`, which look at the time alone.
-pub fn of_time(time: u64) -> u32
+pub(crate) fn of_time(time: u64) -> u32
     ensures { λ r. ⌜ (r ≡ newRefusal time) × ((x : Context) (n : Names) → r ≡ refusal x n (ResetTimer time)) ⌝ }
 {
     first(TIME_MAX < time, TIME_LATE, 0)
 }
 
 // `handle_timeout`.
-pub fn of_timeout(time: u64, room: usize) -> u32
+pub(crate) fn of_timeout(time: u64, room: usize) -> u32
     ensures { λ r. ⌜ ((x : Context) (n : Names) → n .need ≡ outboxSize → r ≡ refusal x n (Timeout time room)) ⌝ }
 {
     first(
@@ -115,7 +112,7 @@ pub fn of_timeout(time: u64, room: usize) -> u32
 }
 
 // News of a link that is multicast or not, and held or not among `count` links.
-pub fn of_new_link(
+pub(crate) fn of_new_link(
     multicast: bool,
     held: bool,
     count: usize,
@@ -136,14 +133,14 @@ pub fn of_new_link(
 }
 
 // The deletion of a link.
-pub fn of_deleted_link(index: u32) -> u32
+pub(crate) fn of_deleted_link(index: u32) -> u32
     ensures { λ r. ⌜ ((x : Context) (n : Names) (outcome : ℕ) → r ≡ refusal x n (DeletedLink index outcome)) ⌝ }
 {
     first(index == 0, INDEX_ZERO, 0)
 }
 
 // A new address, which would be stored or not on a link of `count` addresses.
-pub fn of_new_address(storing: bool, count: usize, index: u32, address: &[u8], room: usize) -> u32
+pub(crate) fn of_new_address(storing: bool, count: usize, index: u32, address: &[u8], room: usize) -> u32
     ensures { λ r. ⌜ ((x : Context) (n : Names) → stores index (now (address .entry)) (x .links) ≡ storing → length (addressesOf (linkAt index (x .links))) ≡ count → n .need ≡ outboxSize → r ≡ refusal x n (NewAddress index (now (address .entry)) room)) ⌝ }
 {
     let full = first(storing & (ADDRESSES <= count), LINKS_FULL, 0);
@@ -160,7 +157,7 @@ pub fn of_new_address(storing: bool, count: usize, index: u32, address: &[u8], r
 }
 
 // The deletion of an address.
-pub fn of_deleted_address(index: u32, address: &[u8]) -> u32
+pub(crate) fn of_deleted_address(index: u32, address: &[u8]) -> u32
     ensures { λ r. ⌜ ((x : Context) (n : Names) → r ≡ refusal x n (DeletedAddress index (now (address .entry)))) ⌝ }
 {
     let formed = first(
@@ -172,7 +169,7 @@ pub fn of_deleted_address(index: u32, address: &[u8]) -> u32
 }
 
 // A search with this MX and a target of this length.
-pub fn of_search(time: u64, mx: u8, target: usize) -> u32
+pub(crate) fn of_search(time: u64, mx: u8, target: usize) -> u32
     ensures { λ r. ⌜ ((x : Context) (n : Names) (sender : Endpoint) (receiver : ℕ) (s : List ℕ) (st : Place) → parsed s ≡ reads (Search st mx) → length (fieldAt s st) ≡ target → r ≡ refusal x n (Datagram time sender receiver s)) ⌝ }
 {
     let long = first(TYPE_SIZE < target, TARGET_OVER_SIZE, 0);

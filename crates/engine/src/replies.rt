@@ -10,7 +10,7 @@ ghost use Rattle.engine.specs.Replies.{isNone, askedNeed, waits, sooner,
 ghost use Rattle.engine.specs.Passes.{askedBy};
 
 // Whether a reply waits: 1, or 0.
-pub fn wait_of(needed: ResponseNeeded) -> usize
+pub(crate) fn wait_of(needed: ResponseNeeded) -> usize
     ensures { λ r. ⌜ (r ≡ waits needed) × (r ≤ 1) ⌝ }
 {
     match needed {
@@ -28,7 +28,7 @@ fn earlier(a: u64, b: u64) -> u64
 }
 
 // The earlier of an instant and that of a reply, if one waits.
-pub fn sooner_of(time: u64, needed: ResponseNeeded) -> u64
+pub(crate) fn sooner_of(time: u64, needed: ResponseNeeded) -> u64
     ensures { λ r. ⌜ r ≡ sooner time needed ⌝ }
 {
     match needed {
@@ -46,7 +46,7 @@ fn same_sender(s: Endpoint, t: Endpoint) -> bool
 }
 
 // Whether a search that asks for a name opens a reply: none waits for it.
-pub fn opens(needed: ResponseNeeded) -> bool
+pub(crate) fn opens(needed: ResponseNeeded) -> bool
     ensures { λ r. ⌜ r ≡ isNone needed ⌝ }
 {
     match needed {
@@ -57,7 +57,7 @@ pub fn opens(needed: ResponseNeeded) -> bool
 }
 
 // The waiting reply of a name after a search that asks for it: one opens, or the searcher joins the one that waits.
-pub fn asked_reply(
+pub(crate) fn asked_reply(
     needed: ResponseNeeded,
     due: u64,
     sender: Endpoint,
@@ -78,7 +78,7 @@ pub fn asked_reply(
 }
 
 // Whether a reply waits that is due.
-pub fn is_due(needed: ResponseNeeded, time: u64) -> bool
+pub(crate) fn is_due(needed: ResponseNeeded, time: u64) -> bool
     ensures { λ r. ⌜ r ≡ isDue time needed ⌝ }
 {
     match needed {
@@ -89,7 +89,7 @@ pub fn is_due(needed: ResponseNeeded, time: u64) -> bool
 }
 
 // Whether a reply to a lone searcher, or to the group, waits: 1, or 0.
-pub fn alone_of(needed: ResponseNeeded) -> usize
+pub(crate) fn alone_of(needed: ResponseNeeded) -> usize
     ensures { λ r. ⌜ (r ≡ isAlone needed) × (r ≤ 1) ⌝ }
 {
     match needed {
@@ -99,7 +99,7 @@ pub fn alone_of(needed: ResponseNeeded) -> usize
     }
 }
 
-pub fn group_of(needed: ResponseNeeded) -> usize
+pub(crate) fn group_of(needed: ResponseNeeded) -> usize
     ensures { λ r. ⌜ (r ≡ isGroup needed) × (r ≤ 1) ⌝ }
 {
     match needed {

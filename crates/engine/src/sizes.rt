@@ -1,6 +1,9 @@
 // The sizes of the tables (document 01, 'Table sizes') and of the arrays that an owner lends for them, each once; specs/Sizes.antt and specs/Arrays.antt
 // have the same in the definitions, and specs/Arrays.antt says what stands where.
 
+// The latest time that a call may bear, in milliseconds.
+pub const TIME_MAX: u64 = 9223372036854775807;
+
 // How many names, subscriptions, links and addresses of a link are held, and how many addresses messages go out from.
 pub const NAMES: usize = 8;
 

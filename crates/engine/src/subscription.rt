@@ -30,7 +30,7 @@ pub struct Subscribers {
 }
 
 // Whether a type is `ssdp:all`.
-pub fn is_all(kind: &[u8]) -> bool
+pub(crate) fn is_all(kind: &[u8]) -> bool
     ensures { λ r. ⌜ r ≡ equal (now (kind .entry)) ssdpAll ⌝ }
 {
     equal(kind, b"ssdp:all")

@@ -40,7 +40,7 @@ fn version_match(search: &[u8], candidate: &[u8]) -> bool
 }
 
 // Whether a search asks for a candidate's type.
-pub fn target_match(search: &[u8], candidate: &[u8]) -> bool
+pub(crate) fn target_match(search: &[u8], candidate: &[u8]) -> bool
     ensures { λ r. ⌜ r ≡ targetMatch (now (search .entry)) (now (candidate .entry)) ⌝ }
 {
     if bytes::equal(search, candidate) {

@@ -28,9 +28,9 @@ const BYEBYE_BESIDES: usize = 152;
 // Refusal numbers.
 const ACCEPTED: u32 = 0;
 
-const TEXT_OVER_SIZE: u32 = 3;
+pub const TEXT_OVER_SIZE: u32 = 3;
 
-const TEXT_NOT_GOOD: u32 = 4;
+pub const TEXT_NOT_GOOD: u32 = 4;
 
 const BUFFER_SHORT: u32 = 6;
 

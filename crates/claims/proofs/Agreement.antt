@@ -17,8 +17,8 @@ use Rattle.engine.specs.Calls.{Call, Query, Act, Enters, Leaves, Asks, Ticks, a
 use Rattle.engine.specs.Records.{isDue, notifyOn, replyRecords, dueRecords, flat}
 use Rattle.engine.specs.Replies.{sumOf, one, waits, waiting, sameSender, shared, askedNeed, askedAnswer, asked, matchedBy, joinedBy, servedNeed, served, isAlone, isGroup, aloneAt, groupAt, Result, newcomer, result, results}
 use Rattle.engine.specs.Refusals.{Names, refusal}
-use Rattle.engine.specs.Engine.{namesOf, turned, Step, accepted, unless, step}
-use Rattle.claims.specs.Ledger.{Wait, Name, named, withWait, waitCount, waitsIn, joined, searched, dueAt, timedOut, Turn, each, turn, turns, Ledger, refusalIn, Entry, entered, ifAccepted, entry, announced, repliesTo, ledgerRecords}
+use Rattle.engine.specs.Engine.{namesOf, refusalOf, Step, accepted, unless, step}
+use Rattle.claims.specs.Ledger.{Wait, Name, named, withWait, waitCount, waitsIn, joined, searched, dueAt, timedOut, Acted, each, acted, actedAll, Ledger, refusalIn, Entry, entered, ifAccepted, entry, announced, repliesTo, ledgerRecords}
 use Rattle.claims.specs.Claim.{countsOf}
 use Rattle.engine.specs.declared.advertisement.Endpoint.{Endpoint}
 use Rattle.engine.specs.declared.advertisement.ResponseNeeded.{ResponseNeeded}
@@ -37,7 +37,7 @@ Alike (Unicast due sender receiver) answer (some w) =
 
 pub record Same (a : Advertisement) (n : Name) : Type 0 where
   pub name : a .name ≡ n .name
-  pub kind : a .kind ≡ n .kind
+  pub service : a .service ≡ n .service
   pub location : a .location ≡ n .location
   pub alike : Alike (a .needed) (a .answer) (n .wait)
 
@@ -82,30 +82,30 @@ waiting-same nil = refl
 waiting-same (row {a = a} {b = n} h t) = omega (arith, waits-same (a .needed) (a .answer) (n .wait) (h .alike), waiting-same t)
 
 -- ---- a search, at one name
-record Searched (b : Bool) (seed : ℕ) (q : Query) (kind : Text) (d : ResponseNeeded) (answer : Text) (o : Option Wait) : Type 0 where
-  alike : Alike (askedNeed b (q .time + delay seed (q .mx)) q d) (askedAnswer b q kind d answer) (searched b seed q kind o .wait)
-  matched : one b ≡ searched b seed q kind o .adds .matched
-  joins : cond b (waits d) 0 ≡ searched b seed q kind o .adds .joined
-  alone : searched b seed q kind o .adds .alone ≡ 0
-  group : searched b seed q kind o .adds .group ≡ 0
-  dropped : searched b seed q kind o .adds .dropped ≡ 0
+record Searched (b : Bool) (seed : ℕ) (q : Query) (service : Text) (d : ResponseNeeded) (answer : Text) (o : Option Wait) : Type 0 where
+  alike : Alike (askedNeed b (q .time + delay seed (q .mx)) q d) (askedAnswer b q service d answer) (searched b seed q service o .wait)
+  matched : one b ≡ searched b seed q service o .adds .matched
+  joins : cond b (waits d) 0 ≡ searched b seed q service o .adds .joined
+  alone : searched b seed q service o .adds .alone ≡ 0
+  group : searched b seed q service o .adds .group ≡ 0
+  dropped : searched b seed q service o .adds .dropped ≡ 0
 
 shared-same : (b c : Bool) (due : ℕ) (answer : Text) (w : Wait) (s : Endpoint) (r : ℕ) → c ≡ b → Alike (Unicast due s r) answer (some w) →
     (q : Query) → (w .group || not c) ≡ joined q w .group → Alike (shared b due s r) answer (some (joined q w))
 shared-same true c due answer w s r e h q g = (h .0, sym g ∙ rw (e, h .1), h .2, h .3, h .4)
 shared-same false c due answer w s r e h q g = (h .0, sym g ∙ rw (e, h .1))
 
-searched-same : (b : Bool) (seed : ℕ) (q : Query) (kind : Text) (d : ResponseNeeded) (answer : Text) (o : Option Wait) → Alike d answer o →
-    Searched b seed q kind d answer o
-searched-same false seed q kind d answer o h = record { alike = h; matched = refl; joins = refl; alone = refl; group = refl; dropped = refl }
-searched-same true seed q kind None answer none h =
+searched-same : (b : Bool) (seed : ℕ) (q : Query) (service : Text) (d : ResponseNeeded) (answer : Text) (o : Option Wait) → Alike d answer o →
+    Searched b seed q service d answer o
+searched-same false seed q service d answer o h = record { alike = h; matched = refl; joins = refl; alone = refl; group = refl; dropped = refl }
+searched-same true seed q service None answer none h =
     record { alike = (refl, refl, refl, refl, refl); matched = refl; joins = refl; alone = refl; group = refl; dropped = refl }
-searched-same true seed q kind None answer (some w) h = absurd h
-searched-same true seed q kind (Multicast due) answer none h = absurd h
-searched-same true seed q kind (Multicast due) answer (some w) h =
+searched-same true seed q service None answer (some w) h = absurd h
+searched-same true seed q service (Multicast due) answer none h = absurd h
+searched-same true seed q service (Multicast due) answer (some w) h =
     record { alike = (h .0, rw (h .1)); matched = refl; joins = refl; alone = refl; group = refl; dropped = refl }
-searched-same true seed q kind (Unicast due s r) answer none h = absurd h
-searched-same true seed q kind (Unicast due s r) answer (some w) h = record {
+searched-same true seed q service (Unicast due s r) answer none h = absurd h
+searched-same true seed q service (Unicast due s r) answer (some w) h = record {
   alike = shared-same (sameSender s (q .sender)) (sameSender (w .sender) (q .sender)) due answer w s r (ap (λ (x : Endpoint). sameSender x (q .sender)) (h .2)) h q refl;
   matched = refl;
   joins = refl;
@@ -118,8 +118,8 @@ searched-same true seed q kind (Unicast due s r) answer (some w) h = record {
 abbrev ask : ℕ → Query → Advertisement → Advertisement
 ask seed q a = asked (q .time + delay seed (q .mx)) q a
 
-abbrev asks : ℕ → Query → List Name → Turn
-asks seed q ns = each (λ n. searched (targetMatch (q .target) (n .kind)) seed q (n .kind) (n .wait)) ns
+abbrev asks : ℕ → Query → List Name → Acted
+asks seed q ns = each (λ n. searched (targetMatch (q .target) (n .service)) seed q (n .service) (n .wait)) ns
 
 record Asked (seed : ℕ) (q : Query) (as′ : List Advertisement) (ns : List Name) : Type 0 where
   table : Table (map (ask seed q) as′) (asks seed q ns .names)
@@ -130,13 +130,13 @@ record Asked (seed : ℕ) (q : Query) (as′ : List Advertisement) (ns : List Na
   dropped : asks seed q ns .adds .dropped ≡ 0
 
 asked-row : (seed : ℕ) (q : Query) (a : Advertisement) (n : Name) → Same a n →
-    Same (ask seed q a) (withWait n (searched (targetMatch (q .target) (n .kind)) seed q (n .kind) (n .wait) .wait))
+    Same (ask seed q a) (withWait n (searched (targetMatch (q .target) (n .service)) seed q (n .service) (n .wait) .wait))
 unfolding asked
 asked-row seed q a n h = record {
   name = h .name;
-  kind = h .kind;
+  service = h .service;
   location = h .location;
-  alike = rw (h .kind) (searched-same (targetMatch (q .target) (n .kind)) seed q (n .kind) (a .needed) (a .answer) (n .wait) (h .alike) .alike);
+  alike = rw (h .service) (searched-same (targetMatch (q .target) (n .service)) seed q (n .service) (a .needed) (a .answer) (n .wait) (h .alike) .alike);
 }
 
 asked-same : (seed : ℕ) (q : Query) {as′ : List Advertisement} {ns : List Name} → Table as′ ns → Asked seed q as′ ns
@@ -144,11 +144,11 @@ unfolding sumOf matchedBy joinedBy each
 asked-same seed q nil = record { table = nil; matched = refl; joins = refl; alone = refl; group = refl; dropped = refl }
 asked-same seed q (row {a = a} {b = n} h t) =
     let r = asked-same seed q t in
-    let i = searched-same (targetMatch (q .target) (n .kind)) seed q (n .kind) (a .needed) (a .answer) (n .wait) (h .alike) in
+    let i = searched-same (targetMatch (q .target) (n .service)) seed q (n .service) (a .needed) (a .answer) (n .wait) (h .alike) in
     record {
       table = row (asked-row seed q a n h) (r .table);
-      matched = rw (h .kind) (omega (arith, i .matched, r .matched));
-      joins = rw (h .kind) (omega (arith, i .joins, r .joins));
+      matched = rw (h .service) (omega (arith, i .matched, r .matched));
+      joins = rw (h .service) (omega (arith, i .joins, r .joins));
       alone = omega (arith, i .alone, r .alone);
       group = omega (arith, i .group, r .group);
       dropped = omega (arith, i .dropped, r .dropped);
@@ -173,7 +173,7 @@ record TimedOut (b : Bool) (up : List ℕ) (a : Advertisement) (n : Name) (d : R
   sent : cond b (replyRecords up a d) [] ≡ cond b (repliesTo up n o) []
 
 timed-same : (b : Bool) (up : List ℕ) (a : Advertisement) (n : Name) (d : ResponseNeeded) (o : Option Wait) →
-    a .name ≡ n .name → a .kind ≡ n .kind → a .location ≡ n .location → Alike d (a .answer) o → TimedOut b up a n d o
+    a .name ≡ n .name → a .service ≡ n .service → a .location ≡ n .location → Alike d (a .answer) o → TimedOut b up a n d o
 timed-same false up a n d o p k l h =
     record { alike = h; alone = refl; group = refl; matched = refl; joins = refl; dropped = refl; sent = refl }
 timed-same true up a n None none p k l h =
@@ -201,7 +201,7 @@ timed-same true up a n (Unicast due s r) (some w) p k l h = record {
 }
 
 -- ---- handle_timeout, at every name
-abbrev ticks : ℕ → List Name → Turn
+abbrev ticks : ℕ → List Name → Acted
 ticks now ns = each (λ n. timedOut (dueAt now (n .wait)) (n .wait)) ns
 
 pub record Timed (now : ℕ) (up : List ℕ) (as′ : List Advertisement) (ns : List Name) : Type 0 where
@@ -217,10 +217,10 @@ served-row : (now : ℕ) (a : Advertisement) (n : Name) → Same a n → Same (s
 unfolding served
 served-row now a n h = record {
   name = h .name;
-  kind = h .kind;
+  service = h .service;
   location = h .location;
   alike = rw (due-same now (a .needed) (a .answer) (n .wait) (h .alike))
-      (timed-same (dueAt now (n .wait)) [] a n (a .needed) (n .wait) (h .name) (h .kind) (h .location) (h .alike) .alike);
+      (timed-same (dueAt now (n .wait)) [] a n (a .needed) (n .wait) (h .name) (h .service) (h .location) (h .alike) .alike);
 }
 
 pub served-same : (now : ℕ) (up : List ℕ) {as′ : List Advertisement} {ns : List Name} → Table as′ ns → Timed now up as′ ns
@@ -229,7 +229,7 @@ served-same now up nil = record { table = nil; alone = refl; group = refl; match
 served-same now up (row {a = a} {b = n} h t) =
     let r = served-same now up t in
     let e = due-same now (a .needed) (a .answer) (n .wait) (h .alike) in
-    let i = timed-same (dueAt now (n .wait)) up a n (a .needed) (n .wait) (h .name) (h .kind) (h .location) (h .alike) in
+    let i = timed-same (dueAt now (n .wait)) up a n (a .needed) (n .wait) (h .name) (h .service) (h .location) (h .alike) in
     record {
       table = row (served-row now a n h) (r .table);
       alone = rw e (omega (arith, i .alone, r .alone));
@@ -244,21 +244,21 @@ served-same now up (row {a = a} {b = n} h t) =
 pub announced-same : (up : List ℕ) {as′ : List Advertisement} {ns : List Name} → Table as′ ns → flat (notifyOn up) as′ ≡ flat (announced up) ns
 unfolding flat
 announced-same up nil = refl
-announced-same up (row h t) = rw (h .name, h .kind, h .location, announced-same up t)
+announced-same up (row h t) = rw (h .name, h .service, h .location, announced-same up t)
 
--- ---- an act: the engine's result and the ledger's turn
-record Agrees (s : Result) (t : Turn) : Type 0 where
+-- ---- an act: the engine's result and the ledger's acted
+record Agrees (s : Result) (t : Acted) : Type 0 where
   table : Table (s .advertisements) (t .names)
   counts : SameCounts (s .counts) (t .adds)
 
 entry-waiting : (x : Text) {as′ : List Advertisement} {ns : List Name} → Table as′ ns → waiting (entryOf advertised x as′) ≡ waitsIn (entryOf named x ns)
 entry-waiting x t = waiting-same (rows-entry before equal (λ a. a .name) (λ n. n .name) same-name x t)
 
-result-same : (x : Act) (seed : ℕ) {as′ : List Advertisement} {ns : List Name} → Table as′ ns → Agrees (result seed as′ x) (turn seed ns x)
-unfolding result turn
-result-same (Enters name kind location) seed t = record {
-  table = rows-enter before equal (λ a. a .name) (λ n. n .name) same-name {p = newcomer name kind location}
-      {q = record { name = name; kind = kind; location = location; wait = none }} (record { name = refl; kind = refl; location = refl; alike = tt }) t;
+result-same : (x : Act) (seed : ℕ) {as′ : List Advertisement} {ns : List Name} → Table as′ ns → Agrees (result seed as′ x) (acted seed ns x)
+unfolding result acted
+result-same (Enters name service location) seed t = record {
+  table = rows-enter before equal (λ a. a .name) (λ n. n .name) same-name {p = newcomer name service location}
+      {q = record { name = name; service = service; location = location; wait = none }} (record { name = refl; service = refl; location = refl; alike = tt }) t;
   counts = record { matched = refl; joined = refl; alone = refl; group = refl; dropped = entry-waiting name t };
 }
 result-same (Leaves name) seed t = record {
@@ -272,8 +272,8 @@ result-same (Ticks now) seed t =
     let r = served-same now [] t in
     record { table = r .table; counts = record { matched = sym (r .matched); joined = sym (r .joins); alone = r .alone; group = r .group; dropped = sym (r .dropped) } }
 
-results-same : (xs : List Act) (seed : ℕ) {as′ : List Advertisement} {ns : List Name} → Table as′ ns → Agrees (results seed as′ xs) (turns seed ns xs)
-unfolding results turns
+results-same : (xs : List Act) (seed : ℕ) {as′ : List Advertisement} {ns : List Name} → Table as′ ns → Agrees (results seed as′ xs) (actedAll seed ns xs)
+unfolding results actedAll
 results-same [] seed t = record { table = t; counts = no-counts }
 results-same (x ∷ xs) seed t =
     let a = result-same x seed t in
@@ -298,8 +298,8 @@ accepted-same c x t =
     record { agree = record { context = refl; table = a .table }; counts = a .counts; waiting = waiting-same (a .table) }
 
 turned-at : (c : Call) (x : Context) {as′ : List Advertisement} {ns : List Name} → Table as′ ns →
-    turned (record { context = x; advertisements = as′ }) c ≡ refusalIn (record { context = x; names = ns }) c
-unfolding turned namesOf refusalIn
+    refusalOf (record { context = x; advertisements = as′ }) c ≡ refusalIn (record { context = x; names = ns }) c
+unfolding refusalOf namesOf refusalIn
 turned-at c x t =
     ap (λ (n : Names). refusal x n c)
     (λ i. record { holds = λ name. rows-known before equal (λ a. a .name) (λ n. n .name) same-name name t i; count = rows-length t i; need = outboxSize })
@@ -316,7 +316,7 @@ step-at c x {as′} {ns} t =
     (unless-same (refusalIn (record { context = x; names = ns }) c) (record { context = x; advertisements = as′ }) (record { context = x; names = ns }) _ _
     (record { context = refl; table = t }) (accepted-same c x t))
 
-pub turned-same : (c : Call) (h : Held) (l : Ledger) → Agree h l → turned h c ≡ refusalIn l c
+pub turned-same : (c : Call) (h : Held) (l : Ledger) → Agree h l → refusalOf h c ≡ refusalIn l c
 turned-same c h l a = turned-at c (h .context) (a .table) ∙ ap (λ (x : Context). refusalIn (record { context = x; names = l .names }) c) (a .context)
 
 pub step-same : (c : Call) (h : Held) (l : Ledger) → Agree h l → Matches (step h c) (entry l c)

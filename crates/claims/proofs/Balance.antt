@@ -9,17 +9,17 @@ use Rattle.engine.specs.Table.{entryOf, enter, leave}
 use Rattle.engine.specs.Target.{targetMatch}
 use Rattle.engine.specs.Held.{Text}
 use Rattle.engine.specs.Calls.{Call, Query, Act, Enters, Leaves, Asks, Ticks, acts, Counts}
-use Rattle.claims.specs.Ledger.{Wait, Name, named, waitCount, waitsIn, Change, searched, dueAt, sentTo, timedOut, each, turn, turns, Ledger, refusalIn, Entry, entered, ifAccepted, entry, ledgerOf, sumsOf}
+use Rattle.claims.specs.Ledger.{Wait, Name, named, waitCount, waitsIn, Change, searched, dueAt, sentTo, timedOut, each, acted, actedAll, Ledger, refusalIn, Entry, entered, ifAccepted, entry, ledgerOf, sumsOf}
 
 abbrev pub Level : ℕ → Counts → ℕ → Type 0
 Level before c after = c .matched + before ≡ c .joined + c .alone + c .group + c .dropped + after
 
 -- ---- one name
-searched-level : (b : Bool) (seed : ℕ) (q : Query) (kind : Text) (o : Option Wait) →
-    Level (waitCount o) (searched b seed q kind o .adds) (waitCount (searched b seed q kind o .wait))
-searched-level false seed q kind o = omega arith
-searched-level true seed q kind none = refl
-searched-level true seed q kind (some w) = refl
+searched-level : (b : Bool) (seed : ℕ) (q : Query) (service : Text) (o : Option Wait) →
+    Level (waitCount o) (searched b seed q service o .adds) (waitCount (searched b seed q service o .wait))
+searched-level false seed q service o = omega arith
+searched-level true seed q service none = refl
+searched-level true seed q service (some w) = refl
 
 sent-level : (group : Bool) → Level 1 (sentTo group) 0
 sent-level true = refl
@@ -63,21 +63,21 @@ enter-level x e (n ∷ ns) = go (named .below (n .name) (x .name)) (named .same 
     go false false h = rw e (omega arith)
 
 -- ---- acts, calls, lists
-turn-level : (seed : ℕ) (ns : List Name) (x : Act) → Level (waitsIn ns) (turn seed ns x .adds) (waitsIn (turn seed ns x .names))
-unfolding turn
-turn-level seed ns (Enters name kind location) =
-    omega (arith, enter-level (record { name = name; kind = kind; location = location; wait = none }) refl ns)
+turn-level : (seed : ℕ) (ns : List Name) (x : Act) → Level (waitsIn ns) (acted seed ns x .adds) (waitsIn (acted seed ns x .names))
+unfolding acted
+turn-level seed ns (Enters name service location) =
+    omega (arith, enter-level (record { name = name; service = service; location = location; wait = none }) refl ns)
 turn-level seed ns (Leaves name) = omega (arith, leave-level name ns)
 turn-level seed ns (Asks q) =
-    each-level (λ n. searched (targetMatch (q .target) (n .kind)) seed q (n .kind) (n .wait))
-    (λ n. searched-level (targetMatch (q .target) (n .kind)) seed q (n .kind) (n .wait)) ns
+    each-level (λ n. searched (targetMatch (q .target) (n .service)) seed q (n .service) (n .wait))
+    (λ n. searched-level (targetMatch (q .target) (n .service)) seed q (n .service) (n .wait)) ns
 turn-level seed ns (Ticks now) =
     each-level (λ n. timedOut (dueAt now (n .wait)) (n .wait)) (λ n. timed-level (dueAt now (n .wait)) (n .wait)) ns
 
-turns-level : (seed : ℕ) (ns : List Name) (xs : List Act) → Level (waitsIn ns) (turns seed ns xs .adds) (waitsIn (turns seed ns xs .names))
-unfolding turns
+turns-level : (seed : ℕ) (ns : List Name) (xs : List Act) → Level (waitsIn ns) (actedAll seed ns xs .adds) (waitsIn (actedAll seed ns xs .names))
+unfolding actedAll
 turns-level seed ns [] = omega arith
-turns-level seed ns (x ∷ xs) = omega (arith, turn-level seed ns x, turns-level seed (turn seed ns x .names) xs)
+turns-level seed ns (x ∷ xs) = omega (arith, turn-level seed ns x, turns-level seed (acted seed ns x .names) xs)
 
 if-level : (k : ℕ) (l : Ledger) (t : Entry) → Level (waitsIn (l .names)) (t .adds) (waitsIn (t .ledger .names)) →
     Level (waitsIn (l .names)) (ifAccepted k l t .adds) (waitsIn (ifAccepted k l t .ledger .names))

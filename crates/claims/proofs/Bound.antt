@@ -73,8 +73,8 @@ module _ (x : Context) (as′ : List Advertisement) (few : Few x as′) where
       let most = all-most (x .subscriptions) as′ (few .subscriptions) (few .names) (addressOf address) in
       cond-most (stores index address (x .links) && anyUp (linkAt index (x .links))) (allFrom (x .subscriptions) as′ (addressOf address)) recordsMax (omega arith)
   records-bound (DeletedAddress index address) = omega arith
-  records-bound (Subscribe kind room) = omega (arith, on-most (λ source. SearchFrom source kind))
-  records-bound (Advertise name kind location room) = omega (arith, on-most (λ source. NotifyFrom source kind name location))
+  records-bound (Subscribe service room) = omega (arith, on-most (λ source. SearchFrom source service))
+  records-bound (Advertise name service location room) = omega (arith, on-most (λ source. NotifyFrom source service name location))
   records-bound (Deadvertise name room) =
       omega (arith, flat-most (byebyeOn up) sourcesMax (λ a. on-most _) (entryOf advertised name as′), entry-few name as′)
   records-bound (Refresh room) = omega (arith, refresh-most (x .subscriptions) as′ (few .subscriptions) (few .names) up up-most)

@@ -15,7 +15,7 @@ use Rattle.engine.specs.Links.{upAddresses}
 use Rattle.engine.specs.Records.{Record, isDue, flat, searchesOf, searchOn, refreshRecords, salvoDue, records}
 use Rattle.engine.specs.Replies.{sumOf, waiting, servedNeed, served, result, results}
 use Rattle.engine.specs.Refusals.{late, newRefusal}
-use Rattle.engine.specs.Engine.{turned, Step, accepted, unless, step, newStep}
+use Rattle.engine.specs.Engine.{refusalOf, Step, accepted, unless, step, newStep}
 use Rattle.engine.specs.Arrays.{Engine, held}
 use Rattle.engine.specs.Promises.{Answered, Answers, Begins}
 use Rattle.claims.specs.Ledger.{Wait, Name, waitsIn, Ledger, entry, ledgerOf, sumsOf, ledgerRefresh}
@@ -105,17 +105,17 @@ unless-refusal : (k : ℕ) (h : Held) (s : Step) → s .answer .refusal ≡ 0 �
 unless-refusal zero h s e = e
 unless-refusal (suc k) h s e = refl
 
-step-refusal : (h : Held) (c : Call) → step h c .answer .refusal ≡ turned h c
+step-refusal : (h : Held) (c : Call) → step h c .answer .refusal ≡ refusalOf h c
 unfolding step accepted
-step-refusal h c = unless-refusal (turned h c) h (accepted h c) refl
+step-refusal h c = unless-refusal (refusalOf h c) h (accepted h c) refl
 
 unless-accepted : (k : ℕ) (h : Held) (s : Step) → k ≡ 0 → unless k h s ≡ s
 unless-accepted zero h s e = refl
 unless-accepted (suc k) h s e = absurd (omega arith)
 
-step-accepted : (h : Held) (c : Call) → turned h c ≡ 0 → step h c ≡ accepted h c
+step-accepted : (h : Held) (c : Call) → refusalOf h c ≡ 0 → step h c ≡ accepted h c
 unfolding step
-step-accepted h c e = unless-accepted (turned h c) h (accepted h c) e
+step-accepted h c e = unless-accepted (refusalOf h c) h (accepted h c) e
 
 unless-bound : (k : ℕ) (h : Held) (s : Step) → length (s .sent) ≤ recordsMax → length (unless k h s .sent) ≤ recordsMax
 unless-bound zero h s e = e
@@ -123,7 +123,7 @@ unless-bound (suc k) h s e = omega arith
 
 step-bound : (h : Held) (c : Call) → Reachable h → length (step h c .sent) ≤ recordsMax
 unfolding step accepted
-step-bound h c r = unless-bound (turned h c) h (accepted h c) (records-bound (h .context) (h .advertisements) (few-of h r) c)
+step-bound h c r = unless-bound (refusalOf h c) h (accepted h c) (records-bound (h .context) (h .advertisements) (few-of h r) c)
 
 unless-records : (k : ℕ) (h : Held) (s : Step) → s .answer .records ≡ length (s .sent) → unless k h s .answer .records ≡ length (unless k h s .sent)
 unless-records zero h s e = e
@@ -131,7 +131,7 @@ unless-records (suc k) h s e = refl
 
 step-records : (h : Held) (c : Call) → step h c .answer .records ≡ length (step h c .sent)
 unfolding step accepted
-step-records h c = unless-records (turned h c) h (accepted h c) refl
+step-records h c = unless-records (refusalOf h c) h (accepted h c) refl
 
 -- ---- handle_timeout: nothing is due behind it
 served-after : (b : Bool) (now : ℕ) (d : ResponseNeeded) → isDue now d ≡ b → After now (servedNeed b d)
@@ -169,7 +169,7 @@ lone laws seed time cs n w i e g =
       reply = rw (e, g);
       opening = o;
       sole = λ p. sole-opener seed time p o refl;
-      matching = subst (Answering (n .kind)) e (opened-matches laws seed time o);
+      matching = subst (Answering (n .service)) e (opened-matches laws seed time o);
     }
 
 serves : Laws → (seed time : ℕ) (cs : List Call) (now room : ℕ) (e : Engine) {outbox outbox′ : List ℕ} (r : Answered) →
@@ -177,7 +177,7 @@ serves : Laws → (seed time : ℕ) (cs : List Call) (now room : ℕ) (e : Engin
     Serves seed time cs now r (step (held e) (Timeout now room) .sent)
 unfolding accepted
 serves laws seed time cs now room e r d a z =
-    let k : turned (held e) (Timeout now room) ≡ 0 =
+    let k : refusalOf (held e) (Timeout now room) ≡ 0 =
     sym (step-refusal (held e) (Timeout now room)) ∙ sym (ap (λ (x : Answer). x .refusal) (d .answer)) ∙ z in
     let s = step-accepted (held e) (Timeout now room) k in
     let f : held (r .engine) .advertisements ≡ map (served now) (held e .advertisements) =

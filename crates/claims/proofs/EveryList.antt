@@ -17,7 +17,7 @@ use Rattle.engine.specs.Records.{flat, records}
 use Rattle.engine.specs.Layout.{layout, written}
 use Rattle.engine.specs.Replies.{sumOf, waits, waiting, sooner, soonest, served, result, results}
 use Rattle.engine.specs.Refusals.{checks, refusal, newRefusal}
-use Rattle.engine.specs.Engine.{namesOf, turned, poll, Told, tells, Step, answerWith, refusedBy, accepted, unless, step, newStep}
+use Rattle.engine.specs.Engine.{namesOf, refusalOf, poll, Notified, notifies, Step, answerWith, refusedBy, accepted, unless, step, newStep}
 use Rattle.engine.specs.Arrays.{numbersWidth, textsWidth, linkRows, searchRows, replyIn, entryIn, entries, Engine, engine, held}
 use Rattle.engine.specs.Promises.{Answers, Begins, Answered, answered}
 use Rattle.claims.specs.Claim.{Log, new, call}
@@ -44,13 +44,13 @@ pub record Given (New : ℕ → ℕ → Answered → Type 0) (Gives : Engine →
   pub by-deleted-address : (head head′ links links′ numbers : List ℕ) (index : ℕ) (a : List ℕ) (r : Answer) →
       ((searches texts : List ℕ) → Answers (engine head links searches numbers texts) (DeletedAddress index a) [] [] (answered (engine head′ links′ searches numbers texts) r)) →
       (searches texts : List ℕ) → Gives (engine head links searches numbers texts) (DeletedAddress index a) [] [] (answered (engine head′ links′ searches numbers texts) r)
-  pub by-subscribe : (head head′ links searches searches′ numbers : List ℕ) (kind o o′ : List ℕ) (r : Answer) →
-      ((texts : List ℕ) → Answers (engine head links searches numbers texts) (Subscribe kind (length o)) o o′ (answered (engine head′ links searches′ numbers texts) r)) →
-      (texts : List ℕ) → Gives (engine head links searches numbers texts) (Subscribe kind (length o)) o o′ (answered (engine head′ links searches′ numbers texts) r)
-  pub by-advertise : (head head′ links numbers numbers′ texts texts′ : List ℕ) (name kind location o o′ : List ℕ) (r : Answer) →
-      ((searches : List ℕ) → Answers (engine head links searches numbers texts) (Advertise name kind location (length o)) o o′ (answered (engine head′ links searches numbers′ texts′) r)) →
+  pub by-subscribe : (head head′ links searches searches′ numbers : List ℕ) (service o o′ : List ℕ) (r : Answer) →
+      ((texts : List ℕ) → Answers (engine head links searches numbers texts) (Subscribe service (length o)) o o′ (answered (engine head′ links searches′ numbers texts) r)) →
+      (texts : List ℕ) → Gives (engine head links searches numbers texts) (Subscribe service (length o)) o o′ (answered (engine head′ links searches′ numbers texts) r)
+  pub by-advertise : (head head′ links numbers numbers′ texts texts′ : List ℕ) (name service location o o′ : List ℕ) (r : Answer) →
+      ((searches : List ℕ) → Answers (engine head links searches numbers texts) (Advertise name service location (length o)) o o′ (answered (engine head′ links searches numbers′ texts′) r)) →
       (searches : List ℕ) →
-      Gives (engine head links searches numbers texts) (Advertise name kind location (length o)) o o′ (answered (engine head′ links searches numbers′ texts′) r)
+      Gives (engine head links searches numbers texts) (Advertise name service location (length o)) o o′ (answered (engine head′ links searches numbers′ texts′) r)
   pub by-deadvertise : (head head′ links numbers numbers′ texts texts′ : List ℕ) (name o o′ : List ℕ) (r : Answer) →
       ((searches : List ℕ) → Answers (engine head links searches numbers texts) (Deadvertise name (length o)) o o′ (answered (engine head′ links searches numbers′ texts′) r)) →
       (searches : List ℕ) → Gives (engine head links searches numbers texts) (Deadvertise name (length o)) o o′ (answered (engine head′ links searches numbers′ texts′) r)
@@ -69,17 +69,17 @@ pub record Given (New : ℕ → ℕ → Answered → Type 0) (Gives : Engine →
 
 -- ---- arrays that hold g before a call and what it leaves after it
 answering : (t t′ : Engine) (g : Held) (c : Call) (s : Step) {outbox outbox′ : List ℕ} {r : Answer} → held t ≡ g → step g c ≡ s → held t′ ≡ s .after → r ≡ s .answer →
-    outbox′ ≡ written (s .sent) outbox → ((turned g c ≡ 0 → ⊥) → t′ ≡ t) → Answers t c outbox outbox′ (answered t′ r)
+    outbox′ ≡ written (s .sent) outbox → ((refusalOf g c ≡ 0 → ⊥) → t′ ≡ t) → Answers t c outbox outbox′ (answered t′ r)
 answering t t′ g c s {outbox} e p a r o u =
     let q : step (held t) c ≡ s = ap (λ (h : Held). step h c) e ∙ p in
     record {
       answer = r ∙ sym (ap (λ (x : Step). x .answer) q);
       engine = a ∙ sym (ap (λ (x : Step). x .after) q);
       sent = o ∙ sym (ap (λ (x : Step). written (x .sent) outbox) q);
-      untouched = λ n. u (λ z. n (ap (λ (h : Held). turned h c) e ∙ z));
+      untouched = λ n. u (λ z. n (ap (λ (h : Held). refusalOf h c) e ∙ z));
     }
 
-step-is : (g : Held) (c : Call) (k : ℕ) → turned g c ≡ k → step g c ≡ unless k g (accepted g c)
+step-is : (g : Held) (c : Call) (k : ℕ) → refusalOf g c ≡ k → step g c ≡ unless k g (accepted g c)
 unfolding step
 step-is g c k e = ap (λ (n : ℕ). unless n g (accepted g c)) e
 
@@ -88,11 +88,11 @@ unfolding written layout flat
 nothing-sent outbox = refl
 
 -- refused: the very arrays
-refusing : (t : Engine) (g : Held) (c : Call) (k : ℕ) {outbox : List ℕ} {r : Answer} → held t ≡ g → turned g c ≡ suc k → r ≡ refusedBy (suc k) g .answer → Answers t c outbox outbox (answered t r)
+refusing : (t : Engine) (g : Held) (c : Call) (k : ℕ) {outbox : List ℕ} {r : Answer} → held t ≡ g → refusalOf g c ≡ suc k → r ≡ refusedBy (suc k) g .answer → Answers t c outbox outbox (answered t r)
 refusing t g c k {outbox} e p r = answering t t g c (refusedBy (suc k) g) e (step-is g c (suc k) p) e r (nothing-sent outbox) (λ _. refl)
 
 -- accepted
-accepting : (t t′ : Engine) (g : Held) (c : Call) {outbox outbox′ : List ℕ} {r : Answer} → held t ≡ g → turned g c ≡ 0 → held t′ ≡ accepted g c .after → r ≡ accepted g c .answer →
+accepting : (t t′ : Engine) (g : Held) (c : Call) {outbox outbox′ : List ℕ} {r : Answer} → held t ≡ g → refusalOf g c ≡ 0 → held t′ ≡ accepted g c .after → r ≡ accepted g c .answer →
     outbox′ ≡ written (accepted g c .sent) outbox → Answers t c outbox outbox′ (answered t′ r)
 accepting t t′ g c e p a r o = answering t t′ g c (accepted g c) e (step-is g c 0 p) a r o (λ n. absurd (n p))
 
@@ -108,7 +108,7 @@ soonest-same zero t ns ts us = refl
 soonest-same (suc n) t ns ts us = soonest-same n (sooner t (replyIn (take numbersWidth ns))) (drop numbersWidth ns) (drop textsWidth ts) (drop textsWidth us)
 
 -- so an answer is the same
-answer-same : (number count : ℕ) (c : Counts) (t : Told) (a b : Held) → waiting (a .advertisements) ≡ waiting (b .advertisements) → poll a ≡ poll b →
+answer-same : (number count : ℕ) (c : Counts) (t : Notified) (a b : Held) → waiting (a .advertisements) ≡ waiting (b .advertisements) → poll a ≡ poll b →
     answerWith number count c a t ≡ answerWith number count c b t
 answer-same number count c t a b w p = λ j. record {
   refusal = number;
@@ -214,22 +214,22 @@ begin-with given seed time w at k e a =
 module _ {New : ℕ → ℕ → Answered → Type 0} {Gives : Engine → Call → List ℕ → List ℕ → Answered → Type 0} (given : Given New Gives) where
   -- a call is accepted or refused
   cases : (h : Held) → Fits h → (c : Call) (o : List ℕ) → InRange c →
-      (turned h c ≡ 0 → Fits (accepted h c .after) →
+      (refusalOf h c ≡ 0 → Fits (accepted h c .after) →
       Gives (engineOf h) c o (written (accepted h c .sent) o) (answered (engineOf (accepted h c .after)) (accepted h c .answer))) →
-      ((k : ℕ) → turned h c ≡ suc k → Gives (engineOf h) c o o (answered (engineOf h) (refusedBy (suc k) h .answer))) → Stepped Gives h c o
-  cases h f c o i accept refuse = go (turned h c) refl
+      ((k : ℕ) → refusalOf h c ≡ suc k → Gives (engineOf h) c o o (answered (engineOf h) (refusedBy (suc k) h .answer))) → Stepped Gives h c o
+  cases h f c o i accept refuse = go (refusalOf h c) refl
     where
-      go : (k : ℕ) → turned h c ≡ k → Stepped Gives h c o
+      go : (k : ℕ) → refusalOf h c ≡ k → Stepped Gives h c o
       go zero e = let f′ = fits-accepted h c e i f in record { after = accepted h c .after; fits = f′; outbox′ = written (accepted h c .sent) o; answer = accepted h c .answer; gives = accept e f′ }
       go (suc k) e = record { after = h; fits = f; outbox′ = o; answer = refusedBy (suc k) h .answer; gives = refuse k e }
 
   module _ (h : Held) (f : Fits h) where
     -- ---- calls that are lent every array
-    whole : (c : Call) (o : List ℕ) → turned h c ≡ 0 → Fits (accepted h c .after) →
+    whole : (c : Call) (o : List ℕ) → refusalOf h c ≡ 0 → Fits (accepted h c .after) →
         Answers (engineOf h) c o (written (accepted h c .sent) o) (answered (engineOf (accepted h c .after)) (accepted h c .answer))
     whole c o e f′ = accepting (engineOf h) (engineOf (accepted h c .after)) h c (held-back h f) e (held-back (accepted h c .after) f′) refl refl
 
-    whole-refused : (c : Call) (o : List ℕ) (k : ℕ) → turned h c ≡ suc k → Answers (engineOf h) c o o (answered (engineOf h) (refusedBy (suc k) h .answer))
+    whole-refused : (c : Call) (o : List ℕ) (k : ℕ) → refusalOf h c ≡ suc k → Answers (engineOf h) c o o (answered (engineOf h) (refusedBy (suc k) h .answer))
     whole-refused c o k e = refusing (engineOf h) h c k (held-back h f) e refl
 
     step-new-link : (index flags outcome : ℕ) (o : List ℕ) → Word index → Stepped Gives h (NewLink index flags outcome (length o)) o
@@ -267,21 +267,21 @@ module _ {New : ℕ → ℕ → Answered → Type 0} {Gives : Engine → Call �
         (λ k e. given .by-handle-timeout _ _ _ _ _ _ _ time o _ _ (whole-refused c o k e))
 
     -- ---- calls that are not lent the subscriptions
-    step-advertise : (name kind location o : List ℕ) → Stepped Gives h (Advertise name kind location (length o)) o
-    unfolding accepted contextAfter acts results result turned refusal checks namesOf records tells poll
-    step-advertise name kind location o =
-        let c = Advertise name kind location (length o) in
+    step-advertise : (name service location o : List ℕ) → Stepped Gives h (Advertise name service location (length o)) o
+    unfolding accepted contextAfter acts results result refusalOf refusal checks namesOf records notifies poll
+    step-advertise name service location o =
+        let c = Advertise name service location (length o) in
         let h′ = accepted h c .after in
         cases h f c o tt
-        (λ e f′. given .by-advertise _ (headOf h′) _ _ (N h′ f′) _ (T h′ f′) name kind location o _ _
+        (λ e f′. given .by-advertise _ (headOf h′) _ _ (N h′ f′) _ (T h′ f′) name service location o _ _
         (λ searches. accepting _ _ (g searches) c (on-searches h f searches) e (on-searches h′ f′ searches) refl refl) (S h f))
-        (λ k e. given .by-advertise _ _ _ _ _ _ _ name kind location o _ _ (λ searches. refusing _ (g searches) c k (on-searches h f searches) e refl) (S h f))
+        (λ k e. given .by-advertise _ _ _ _ _ _ _ name service location o _ _ (λ searches. refusing _ (g searches) c k (on-searches h f searches) e refl) (S h f))
       where
         g : List ℕ → Held
         g searches = other h (h .context .links) (searchesOn h f searches) (h .advertisements)
 
     step-deadvertise : (name o : List ℕ) → Stepped Gives h (Deadvertise name (length o)) o
-    unfolding accepted contextAfter acts results result turned refusal checks namesOf records tells poll
+    unfolding accepted contextAfter acts results result refusalOf refusal checks namesOf records notifies poll
     step-deadvertise name o =
         let c = Deadvertise name (length o) in
         let h′ = accepted h c .after in
@@ -298,22 +298,22 @@ module _ {New : ℕ → ℕ → Answered → Type 0} {Gives : Engine → Call �
     unfolding poll
     same-refused k texts = answer-same (suc k) 0 zeros _ h (other h [] [] (namesOn h f texts)) (waiting-on h f texts) (soonest-on h f _ texts)
 
-    step-subscribe : (kind o : List ℕ) → Stepped Gives h (Subscribe kind (length o)) o
-    unfolding accepted contextAfter acts results result turned refusal checks namesOf records tells poll
-    step-subscribe kind o =
-        let c = Subscribe kind (length o) in
+    step-subscribe : (service o : List ℕ) → Stepped Gives h (Subscribe service (length o)) o
+    unfolding accepted contextAfter acts results result refusalOf refusal checks namesOf records notifies poll
+    step-subscribe service o =
+        let c = Subscribe service (length o) in
         let h′ = accepted h c .after in
         cases h f c o tt
-        (λ e f′. given .by-subscribe _ (headOf h′) _ _ (S h′ f′) _ kind o _ _
+        (λ e f′. given .by-subscribe _ (headOf h′) _ _ (S h′ f′) _ service o _ _
         (λ texts. accepting _ _ (g texts) c (on-texts h f texts) e (on-texts h′ f′ texts)
         (answer-same 0 _ _ _ h′ (accepted (g texts) c .after) (waiting-on h f texts) (soonest-on h f _ texts)) refl) (T h f))
-        (λ k e. given .by-subscribe _ _ _ _ _ _ kind o _ _ (λ texts. refusing _ (g texts) c k (on-texts h f texts) e (same-refused k texts)) (T h f))
+        (λ k e. given .by-subscribe _ _ _ _ _ _ service o _ _ (λ texts. refusing _ (g texts) c k (on-texts h f texts) e (same-refused k texts)) (T h f))
       where
         g : List ℕ → Held
         g texts = other h (h .context .links) (h .context .subscriptions) (namesOn h f texts)
 
     step-deleted-link : (index outcome : ℕ) → Stepped Gives h (DeletedLink index outcome) []
-    unfolding accepted contextAfter acts results result turned refusal checks namesOf records tells poll written layout flat
+    unfolding accepted contextAfter acts results result refusalOf refusal checks namesOf records notifies poll written layout flat
     step-deleted-link index outcome =
         let c = DeletedLink index outcome in
         let h′ = accepted h c .after in
@@ -328,7 +328,7 @@ module _ {New : ℕ → ℕ → Answered → Type 0} {Gives : Engine → Call �
         g searches texts = other h (h .context .links) (searchesOn h f searches) (namesOn h f texts)
 
     step-deleted-address : (index : ℕ) (a : List ℕ) → Word index → Stepped Gives h (DeletedAddress index a) []
-    unfolding accepted contextAfter acts results result turned refusal checks namesOf records tells poll written layout flat
+    unfolding accepted contextAfter acts results result refusalOf refusal checks namesOf records notifies poll written layout flat
     step-deleted-address index a i =
         let c = DeletedAddress index a in
         let h′ = accepted h c .after in
@@ -343,7 +343,7 @@ module _ {New : ℕ → ℕ → Answered → Type 0} {Gives : Engine → Call �
         g searches texts = other h (h .context .links) (searchesOn h f searches) (namesOn h f texts)
 
     step-reset : (time : ℕ) → Stepped Gives h (ResetTimer time) []
-    unfolding accepted contextAfter acts results result turned refusal checks namesOf records tells poll written layout flat
+    unfolding accepted contextAfter acts results result refusalOf refusal checks namesOf records notifies poll written layout flat
     step-reset time =
         let c = ResetTimer time in
         let h′ = accepted h c .after in
@@ -359,7 +359,7 @@ module _ {New : ℕ → ℕ → Answered → Type 0} {Gives : Engine → Call �
 
     -- ---- a datagram: not lent the links, and the head stays as it is
     step-on-data : (time : ℕ) (sender : Endpoint) (receiver : ℕ) (d : List ℕ) → SenderFits sender receiver → Stepped Gives h (Datagram time sender receiver d) []
-    unfolding accepted contextAfter acts results turned refusal checks namesOf records tells poll headOf written layout flat
+    unfolding accepted contextAfter acts results refusalOf refusal checks namesOf records notifies poll headOf written layout flat
     step-on-data time sender receiver d i =
         let c = Datagram time sender receiver d in
         let h′ = accepted h c .after in
@@ -385,9 +385,9 @@ module _ {New : ℕ → ℕ → Answered → Type 0} {Gives : Engine → Call �
   step-of h f (DeletedLink index outcome) o i l = subst (Stepped Gives h (DeletedLink index outcome)) (sym l) (step-deleted-link h f index outcome)
   step-of h f (NewAddress index address room) o i l = subst (λ (n : ℕ). Stepped Gives h (NewAddress index address n) o) (sym l) (step-new-address h f index address o i)
   step-of h f (DeletedAddress index address) o i l = subst (Stepped Gives h (DeletedAddress index address)) (sym l) (step-deleted-address h f index address i)
-  step-of h f (Subscribe kind room) o i l = subst (λ (n : ℕ). Stepped Gives h (Subscribe kind n) o) (sym l) (step-subscribe h f kind o)
-  step-of h f (Advertise name kind location room) o i l =
-      subst (λ (n : ℕ). Stepped Gives h (Advertise name kind location n) o) (sym l) (step-advertise h f name kind location o)
+  step-of h f (Subscribe service room) o i l = subst (λ (n : ℕ). Stepped Gives h (Subscribe service n) o) (sym l) (step-subscribe h f service o)
+  step-of h f (Advertise name service location room) o i l =
+      subst (λ (n : ℕ). Stepped Gives h (Advertise name service location n) o) (sym l) (step-advertise h f name service location o)
   step-of h f (Deadvertise name room) o i l = subst (λ (n : ℕ). Stepped Gives h (Deadvertise name n) o) (sym l) (step-deadvertise h f name o)
   step-of h f (Refresh room) o i l = subst (λ (n : ℕ). Stepped Gives h (Refresh n) o) (sym l) (step-refresh h f o)
   step-of h f (Datagram time sender receiver s) o i l =

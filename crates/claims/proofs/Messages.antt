@@ -17,7 +17,7 @@ use Rattle.engine.specs.Links.{addressesOf, anyUp, upAddresses, addressOf, link
 use Rattle.engine.specs.Records.{Record, SearchFrom, NotifyFrom, ByeByeFrom, ResponseFrom, flat, anyAll, searchesOf, notify, searchOn, notifyOn, refreshRecords, addressRecords, replyRecords, isDue, dueRecords, salvoDue, turnsUp, records}
 use Rattle.engine.specs.Layout.{textsOf, textOf, messageOf}
 use Rattle.engine.specs.Refusals.{checks}
-use Rattle.engine.specs.Engine.{namesOf, turned, Step, accepted, unless, step}
+use Rattle.engine.specs.Engine.{namesOf, refusalOf, Step, accepted, unless, step}
 use Rattle.engine.specs.declared.advertisement.Endpoint.{Endpoint}
 use Rattle.engine.specs.declared.advertisement.ResponseNeeded.{ResponseNeeded}
 use Rattle.engine.specs.declared.advertisement.ResponseNeeded.the-variants.{None, Multicast, Unicast}
@@ -52,11 +52,11 @@ built : (m : Record) → AllFit (textsOf m) → Built m
 unfolding messageOf
 built m f = sent-message (textOf m) f
 
-search-built : (source : ℕ) (kind : Text) → Fits typeMax kind → Built (SearchFrom source kind)
-search-built source kind k = built (SearchFrom source kind) (and k none)
+search-built : (source : ℕ) (service : Text) → Fits typeMax service → Built (SearchFrom source service)
+search-built source service k = built (SearchFrom source service) (and k none)
 
-byebye-built : (source : ℕ) (kind name : Text) → Fits typeMax kind → Fits nameMax name → Built (ByeByeFrom source kind name)
-byebye-built source kind name k n = built (ByeByeFrom source kind name) (and k (and n none))
+byebye-built : (source : ℕ) (service name : Text) → Fits typeMax service → Fits nameMax name → Built (ByeByeFrom source service name)
+byebye-built source service name k n = built (ByeByeFrom source service name) (and k (and n none))
 
 -- a message from each of some addresses
 from-each : (f : ℕ → Record) → ((source : ℕ) → Built (f source)) → (up : List ℕ) → Each Built (map f up)
@@ -70,16 +70,16 @@ module _ (laws : Laws) where
     good = laws .rewritten-good location source (l .good);
   }
 
-  notify-built : (source : ℕ) (kind name location : Text) → Fits typeMax kind → Fits nameMax name → Fits locationMax location →
-      Built (NotifyFrom source kind name location)
-  notify-built source kind name location k n l = built (NotifyFrom source kind name location) (and k (and n (and (location-fits location source l) none)))
+  notify-built : (source : ℕ) (service name location : Text) → Fits typeMax service → Fits nameMax name → Fits locationMax location →
+      Built (NotifyFrom source service name location)
+  notify-built source service name location k n l = built (NotifyFrom source service name location) (and k (and n (and (location-fits location source l) none)))
 
-  response-built : (source : ℕ) (to : Endpoint) (kind name location : Text) → Fits typeMax kind → Fits nameMax name → Fits locationMax location →
-      Built (ResponseFrom source to kind name location)
-  response-built source to kind name location k n l = built (ResponseFrom source to kind name location) (and k (and n (and (location-fits location source l) none)))
+  response-built : (source : ℕ) (to : Endpoint) (service name location : Text) → Fits typeMax service → Fits nameMax name → Fits locationMax location →
+      Built (ResponseFrom source to service name location)
+  response-built source to service name location k n l = built (ResponseFrom source to service name location) (and k (and n (and (location-fits location source l) none)))
 
   advertised-built : (a : Advertisement) → TextsFit a → (source : ℕ) → Built (notify a source)
-  advertised-built a f source = notify-built source (a .kind) (a .name) (a .location) (f .kind) (f .name) (f .location)
+  advertised-built a f source = notify-built source (a .service) (a .name) (a .location) (f .service) (f .name) (f .location)
 
   reply-built : (up : List ℕ) (a : Advertisement) → TextsFit a → (d : ResponseNeeded) → AnswerFits d (a .answer) → Each Built (replyRecords up a d)
   reply-built up a f None h = nobody
@@ -121,14 +121,14 @@ module _ (laws : Laws) where
       each-cond (stores index address (h .context .links) && anyUp (linkAt index (h .context .links)))
       (address-built (h .context) (h .advertisements) (r .listed) (r .subscribed) (addressOf address)) nobody
   records-built h (DeletedAddress index address) p r = nobody
-  records-built h (Subscribe kind room) p r =
-      from-each (λ source. SearchFrom source kind) (λ source. search-built source kind (fits-passed typeMax kind (p .1 .0) (p .1 .1 .0))) (upAddresses (h .context .links))
-  records-built h (Advertise name kind location room) p r =
-      let t = three-fit nameMax typeMax locationMax name kind location (p .1 .0) (p .1 .1 .0) in
-      from-each (λ source. NotifyFrom source kind name location) (λ source. notify-built source kind name location (t .1) (t .0) (t .2)) (upAddresses (h .context .links))
+  records-built h (Subscribe service room) p r =
+      from-each (λ source. SearchFrom source service) (λ source. search-built source service (fits-passed typeMax service (p .1 .0) (p .1 .1 .0))) (upAddresses (h .context .links))
+  records-built h (Advertise name service location room) p r =
+      let t = three-fit nameMax typeMax locationMax name service location (p .1 .0) (p .1 .1 .0) in
+      from-each (λ source. NotifyFrom source service name location) (λ source. notify-built source service name location (t .1) (t .0) (t .2)) (upAddresses (h .context .links))
   records-built h (Deadvertise name room) p r =
-      each-flat (λ a. map (λ source. ByeByeFrom source (a .kind) (a .name)) (upAddresses (h .context .links)))
-      (λ a f. from-each (λ source. ByeByeFrom source (a .kind) (a .name)) (λ source. byebye-built source (a .kind) (a .name) (f .kind) (f .name)) (upAddresses (h .context .links)))
+      each-flat (λ a. map (λ source. ByeByeFrom source (a .service) (a .name)) (upAddresses (h .context .links)))
+      (λ a f. from-each (λ source. ByeByeFrom source (a .service) (a .name)) (λ source. byebye-built source (a .service) (a .name) (f .service) (f .name)) (upAddresses (h .context .links)))
       (each-entry advertised name (r .listed .fit))
   records-built h (Refresh room) p r = refresh-built (h .context) (h .advertisements) (r .listed) (r .subscribed)
   records-built h (Datagram now sender receiver s) p r = nobody
@@ -142,6 +142,6 @@ unless-built zero h s f = f refl
 unless-built (suc k) h s f = nobody
 
 pub step-built : Laws → (h : Held) (c : Call) → Reachable h → Each Built (step h c .sent)
-unfolding step accepted turned
+unfolding step accepted refusalOf
 step-built laws h c r =
-    unless-built (turned h c) h (accepted h c) (λ e. records-built laws h c (passed (h .context) (namesOf h c) c e) r)
+    unless-built (refusalOf h c) h (accepted h c) (λ e. records-built laws h c (passed (h .context) (namesOf h c) c e) r)

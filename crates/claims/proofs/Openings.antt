@@ -11,7 +11,7 @@ use Rattle.engine.specs.Target.{ssdpAll, targetMatch}
 use Rattle.engine.specs.Held.{Text, Context}
 use Rattle.engine.specs.Calls.{Call, NewLink, DeletedLink, NewAddress, DeletedAddress, Subscribe, Advertise, Deadvertise, Refresh, Datagram, Timeout, ResetTimer, Query, Act, Enters, Leaves, Asks, Ticks, acts}
 use Rattle.engine.specs.Links.{contextAfter}
-use Rattle.claims.specs.Ledger.{Wait, Name, named, withWait, waitCount, Change, opened, joined, searched, dueAt, timedOut, each, turn, turns, Ledger, refusalIn, entered, ifAccepted, entry, ledgerOf}
+use Rattle.claims.specs.Ledger.{Wait, Name, named, withWait, waitCount, Change, opened, joined, searched, dueAt, timedOut, each, acted, actedAll, Ledger, refusalIn, entered, ifAccepted, entry, ledgerOf}
 use Rattle.claims.specs.Claim.{Opened, here, later, since}
 use Rattle.engine.proofs.Accepted.{Single, single}
 use Rattle.claims.proofs.Ascending.{Ascending, empty, ascending-enter, ascending-leave, ascending-map, in-one}
@@ -36,7 +36,7 @@ joined-lone q w e f = λ i. record { due = w .due; sender = w .sender; receiver 
 
 module _ (seed time : ℕ) (cs : List Call) (c : Call) (k : refusalIn (ledgerOf seed time cs) c ≡ 0) where
   searched-traced : (q : Query) → acts c ≡ Asks q ∷ [] → (n : Name) → In n (ledgerOf seed time cs .names) → (b : Bool) (o : Option Wait) →
-      targetMatch (q .target) (n .kind) ≡ b → n .wait ≡ o → Traced seed time (c ∷ cs) n → Traced seed time (c ∷ cs) (withWait n (searched b seed q (n .kind) o .wait))
+      targetMatch (q .target) (n .service) ≡ b → n .wait ≡ o → Traced seed time (c ∷ cs) n → Traced seed time (c ∷ cs) (withWait n (searched b seed q (n .service) o .wait))
   searched-traced q a n i false o m e h = subst (λ (x : Option Wait). Traced seed time (c ∷ cs) (withWait n x)) e h
   searched-traced q a n i true none m e h = λ _ _. here q k a i e m
   searched-traced q a n i true (some w) m e h = λ j g.
@@ -61,19 +61,19 @@ abbrev Member : ℕ → ℕ → List Call → Call → Name → Type 0
 Member seed time cs c n = In n (ledgerOf seed time cs .names) × Traced seed time (c ∷ cs) n
 
 module _ (seed time : ℕ) (cs : List Call) (c : Call) (k : refusalIn (ledgerOf seed time cs) c ≡ 0) where
-  turn-traced : (x : Act) → acts c ≡ x ∷ [] → {ns : List Name} → Each (Member seed time cs c) ns → Each (Traced seed time (c ∷ cs)) (turn seed ns x .names)
-  unfolding turn
-  turn-traced (Enters name kind location) e h =
-      each-enter named (record { name = name; kind = kind; location = location; wait = none }) (λ _ g. absurd g) (each-as (λ n m. m .1) h)
+  turn-traced : (x : Act) → acts c ≡ x ∷ [] → {ns : List Name} → Each (Member seed time cs c) ns → Each (Traced seed time (c ∷ cs)) (acted seed ns x .names)
+  unfolding acted
+  turn-traced (Enters name service location) e h =
+      each-enter named (record { name = name; service = service; location = location; wait = none }) (λ _ g. absurd g) (each-as (λ n m. m .1) h)
   turn-traced (Leaves name) e h = each-leave named name (each-as (λ n m. m .1) h)
   turn-traced (Asks q) e h =
-      each-turn (λ n. searched (targetMatch (q .target) (n .kind)) seed q (n .kind) (n .wait))
-      (λ n m. searched-traced seed time cs c k q e n (m .0) (targetMatch (q .target) (n .kind)) (n .wait) refl refl (m .1)) h
+      each-turn (λ n. searched (targetMatch (q .target) (n .service)) seed q (n .service) (n .wait))
+      (λ n m. searched-traced seed time cs c k q e n (m .0) (targetMatch (q .target) (n .service)) (n .wait) refl refl (m .1)) h
   turn-traced (Ticks now) e h =
       each-turn (λ n. timedOut (dueAt now (n .wait)) (n .wait)) (λ n m. timed-traced seed time cs c k n (dueAt now (n .wait)) (n .wait) refl (m .1)) h
 
-  turns-traced : (xs : List Act) → acts c ≡ xs → Single xs → {ns : List Name} → Each (Member seed time cs c) ns → Each (Traced seed time (c ∷ cs)) (turns seed ns xs .names)
-  unfolding turns
+  turns-traced : (xs : List Act) → acts c ≡ xs → Single xs → {ns : List Name} → Each (Member seed time cs c) ns → Each (Traced seed time (c ∷ cs)) (actedAll seed ns xs .names)
+  unfolding actedAll
   turns-traced [] e s h = each-as (λ n m. m .1) h
   turns-traced (x ∷ []) e s h = turn-traced x e h
   turns-traced (x ∷ y ∷ xs) e s h = absurd s
@@ -85,8 +85,8 @@ seed-after x (NewLink index flags outcome room) = refl
 seed-after x (DeletedLink index outcome) = refl
 seed-after x (NewAddress index address room) = refl
 seed-after x (DeletedAddress index address) = refl
-seed-after x (Subscribe kind room) = refl
-seed-after x (Advertise name kind location room) = refl
+seed-after x (Subscribe service room) = refl
+seed-after x (Advertise name service location room) = refl
 seed-after x (Deadvertise name room) = refl
 seed-after x (Refresh room) = refl
 seed-after x (Datagram now sender receiver s) = refl
@@ -108,7 +108,7 @@ entry-traced : (seed time : ℕ) (cs : List Call) (c : Call) (k : ℕ) → refus
     Each (Traced seed time (c ∷ cs)) (ifAccepted k (ledgerOf seed time cs) (entered (ledgerOf seed time cs) c) .ledger .names)
 unfolding entered
 entry-traced seed time cs c zero e h =
-    subst (λ (s : ℕ). Each (Traced seed time (c ∷ cs)) (turns s (ledgerOf seed time cs .names) (acts c) .names)) (sym (seed-kept seed time cs))
+    subst (λ (s : ℕ). Each (Traced seed time (c ∷ cs)) (actedAll s (ledgerOf seed time cs .names) (acts c) .names)) (sym (seed-kept seed time cs))
     (turns-traced seed time cs c e (acts c) refl (single c) h)
 entry-traced seed time cs c (suc k) e h = each-as (λ n m. m .1) h
 
@@ -127,17 +127,17 @@ unfolding each
 in-each f n (first e) = first (ap (λ (m : Name). withWait m (f m .wait)) e)
 in-each f n (after i) = after (in-each f n i)
 
-searched-opens : (b : Bool) (seed : ℕ) (q : Query) (kind : Text) (o : Option Wait) → b ≡ true → o ≡ none → searched b seed q kind o .wait ≡ some (opened seed q kind)
-searched-opens b seed q kind o e f = rw (e, f)
+searched-opens : (b : Bool) (seed : ℕ) (q : Query) (service : Text) (o : Option Wait) → b ≡ true → o ≡ none → searched b seed q service o .wait ≡ some (opened seed q service)
+searched-opens b seed q service o e f = rw (e, f)
 
-asked-in : (seed : ℕ) (ns : List Name) (q : Query) (n : Name) → In n ns → n .wait ≡ none → targetMatch (q .target) (n .kind) ≡ true →
-    In (withWait n (some (opened seed q (n .kind)))) (turns seed ns (Asks q ∷ []) .names)
-unfolding turns turn
+asked-in : (seed : ℕ) (ns : List Name) (q : Query) (n : Name) → In n ns → n .wait ≡ none → targetMatch (q .target) (n .service) ≡ true →
+    In (withWait n (some (opened seed q (n .service)))) (actedAll seed ns (Asks q ∷ []) .names)
+unfolding actedAll acted
 asked-in seed ns q n i e m =
-    let f : Name → Change = λ n. searched (targetMatch (q .target) (n .kind)) seed q (n .kind) (n .wait) in
-    subst (λ (x : Option Wait). In (withWait n x) (each f ns .names)) (searched-opens (targetMatch (q .target) (n .kind)) seed q (n .kind) (n .wait) m e) (in-each f n i)
+    let f : Name → Change = λ n. searched (targetMatch (q .target) (n .service)) seed q (n .service) (n .wait) in
+    subst (λ (x : Option Wait). In (withWait n x) (each f ns .names)) (searched-opens (targetMatch (q .target) (n .service)) seed q (n .service) (n .wait) m e) (in-each f n i)
 
-entered-in : (k : ℕ) (l : Ledger) (c : Call) (n : Name) → k ≡ 0 → In n (turns (l .context .seed) (l .names) (acts c) .names) →
+entered-in : (k : ℕ) (l : Ledger) (c : Call) (n : Name) → k ≡ 0 → In n (actedAll (l .context .seed) (l .names) (acts c) .names) →
     In n (ifAccepted k l (entered l c) .ledger .names)
 unfolding entered
 entered-in zero l c n e i = i
@@ -147,9 +147,9 @@ entered-in (suc k) l c n e i = absurd (omega arith)
 opened-in : (seed time : ℕ) {cs : List Call} {n : Name} → Opened seed time cs n → In n (ledgerOf seed time cs .names)
 unfolding ledgerOf entry
 opened-in seed time (here {c = c} {cs = cs} {n = n} q k a i e m) =
-    entered-in (refusalIn (ledgerOf seed time cs) c) (ledgerOf seed time cs) c (withWait n (some (opened seed q (n .kind)))) k
-    (subst (λ (xs : List Act). In (withWait n (some (opened seed q (n .kind)))) (turns (ledgerOf seed time cs .context .seed) (ledgerOf seed time cs .names) xs .names)) (sym a)
-    (subst (λ (s : ℕ). In (withWait n (some (opened seed q (n .kind)))) (turns s (ledgerOf seed time cs .names) (Asks q ∷ []) .names)) (sym (seed-kept seed time cs))
+    entered-in (refusalIn (ledgerOf seed time cs) c) (ledgerOf seed time cs) c (withWait n (some (opened seed q (n .service)))) k
+    (subst (λ (xs : List Act). In (withWait n (some (opened seed q (n .service)))) (actedAll (ledgerOf seed time cs .context .seed) (ledgerOf seed time cs .names) xs .names)) (sym a)
+    (subst (λ (s : ℕ). In (withWait n (some (opened seed q (n .service)))) (actedAll s (ledgerOf seed time cs .names) (Asks q ∷ []) .names)) (sym (seed-kept seed time cs))
     (asked-in seed (ledgerOf seed time cs .names) q n i e m)))
 opened-in seed time (later o i) = i
 
@@ -162,15 +162,15 @@ each-names f (n ∷ ns) = ap (λ (l : List Name). withWait n (f n .wait) ∷ l) 
 ascending-each : (f : Name → Change) {ns : List Name} → Ascending named ns → Ascending named (each f ns .names)
 ascending-each f {ns} h = subst (Ascending named) (sym (each-names f ns)) (ascending-map named (λ n. withWait n (f n .wait)) (λ n. refl) h)
 
-ascending-turn : (seed : ℕ) (x : Act) {ns : List Name} → Ascending named ns → Ascending named (turn seed ns x .names)
-unfolding turn
-ascending-turn seed (Enters name kind location) h = ascending-enter named by-name (record { name = name; kind = kind; location = location; wait = none }) h
+ascending-turn : (seed : ℕ) (x : Act) {ns : List Name} → Ascending named ns → Ascending named (acted seed ns x .names)
+unfolding acted
+ascending-turn seed (Enters name service location) h = ascending-enter named by-name (record { name = name; service = service; location = location; wait = none }) h
 ascending-turn seed (Leaves name) h = ascending-leave named by-name name h
-ascending-turn seed (Asks q) h = ascending-each (λ n. searched (targetMatch (q .target) (n .kind)) seed q (n .kind) (n .wait)) h
+ascending-turn seed (Asks q) h = ascending-each (λ n. searched (targetMatch (q .target) (n .service)) seed q (n .service) (n .wait)) h
 ascending-turn seed (Ticks now) h = ascending-each (λ n. timedOut (dueAt now (n .wait)) (n .wait)) h
 
-ascending-turns : (seed : ℕ) (xs : List Act) {ns : List Name} → Ascending named ns → Ascending named (turns seed ns xs .names)
-unfolding turns
+ascending-turns : (seed : ℕ) (xs : List Act) {ns : List Name} → Ascending named ns → Ascending named (actedAll seed ns xs .names)
+unfolding actedAll
 ascending-turns seed [] h = h
 ascending-turns seed (x ∷ xs) h = ascending-turns seed xs (ascending-turn seed x h)
 
@@ -193,20 +193,20 @@ clash seed time cs n w i e j =
 pub sole-opener : (seed time : ℕ) {cs : List Call} {n m : Name} (o : Opened seed time cs n) (p : Opened seed time cs m) → n ≡ m → since o ≡ since p
 sole-opener seed time (here q k a i e m) (here q′ k′ a′ i′ e′ m′) s = refl
 sole-opener seed time (here {cs = cs} {n = n} q k a i e m) (later p j) s =
-    absurd (clash seed time cs n (opened seed q (n .kind)) i e (subst (λ (x : Name). In x (ledgerOf seed time cs .names)) (sym s) (opened-in seed time p)))
+    absurd (clash seed time cs n (opened seed q (n .service)) i e (subst (λ (x : Name). In x (ledgerOf seed time cs .names)) (sym s) (opened-in seed time p)))
 sole-opener seed time (later o j) (here {cs = cs} {n = n} q k a i e m) s =
-    absurd (clash seed time cs n (opened seed q (n .kind)) i e (subst (λ (x : Name). In x (ledgerOf seed time cs .names)) s (opened-in seed time o)))
+    absurd (clash seed time cs n (opened seed q (n .service)) i e (subst (λ (x : Name). In x (ledgerOf seed time cs .names)) s (opened-in seed time o)))
 sole-opener seed time (later o j) (later p j′) s = ap suc (sole-opener seed time o p s)
 
 -- ---- what a lone wait answers matches the advertised type
-answer-matches : (laws : Laws) (b : Bool) (q : Query) (kind : Text) → targetMatch (q .target) kind ≡ true → targetMatch (cond b kind (q .target)) kind ≡ true
-answer-matches laws true q kind e = laws .match-self kind
-answer-matches laws false q kind e = e
+answer-matches : (laws : Laws) (b : Bool) (q : Query) (service : Text) → targetMatch (q .target) service ≡ true → targetMatch (cond b service (q .target)) service ≡ true
+answer-matches laws true q service e = laws .match-self service
+answer-matches laws false q service e = e
 
 abbrev pub Answering : Text → Option Wait → Type 0
-Answering kind none = Unit {0}
-Answering kind (some w) = targetMatch (w .answer) kind ≡ true
+Answering service none = Unit {0}
+Answering service (some w) = targetMatch (w .answer) service ≡ true
 
-pub opened-matches : (laws : Laws) (seed time : ℕ) {cs : List Call} {n : Name} → Opened seed time cs n → Answering (n .kind) (n .wait)
-opened-matches laws seed time (here {n = n} q k a i e m) = answer-matches laws (equal (q .target) ssdpAll) q (n .kind) m
+pub opened-matches : (laws : Laws) (seed time : ℕ) {cs : List Call} {n : Name} → Opened seed time cs n → Answering (n .service) (n .wait)
+opened-matches laws seed time (here {n = n} q k a i e m) = answer-matches laws (equal (q .target) ssdpAll) q (n .service) m
 opened-matches laws seed time (later o i) = opened-matches laws seed time o

@@ -22,7 +22,7 @@ use Rattle.engine.specs.Calls.{Call, NewLink, DeletedLink, NewAddress, DeletedA
 use Rattle.engine.specs.Links.{addressesOf, anyUp, lastInto, isV4, addressOf, linkAt, stores, linkWith, linkNews, addressNews, addressGone, contextAfter}
 use Rattle.engine.specs.Records.{isDue}
 use Rattle.engine.specs.Replies.{sameSender, shared, askedNeed, askedAnswer, hits, asked, servedNeed, served, newcomer, result, results}
-use Rattle.engine.specs.Engine.{turned, accepted}
+use Rattle.engine.specs.Engine.{refusalOf, accepted}
 use Rattle.claims.specs.EveryList.{Byte, Word, SenderFits, InRange}
 use Rattle.engine.specs.declared.advertisement.Endpoint.{Endpoint}
 use Rattle.engine.specs.declared.advertisement.ResponseNeeded.{ResponseNeeded}
@@ -103,8 +103,8 @@ context-ranged x (DeletedAddress index address) i r =
     (each-cond (isV4 address && known byIndex index (x .links))
     (each-enter byIndex b (record { index = i; addresses = words-last (addressOf address) (words-of (each-entry byIndex index (r .links))) }) (r .links))
     (r .links)) r
-context-ranged x (Subscribe kind room) i r = record { seed = r .seed; timer = r .timer; phase = r .phase; links = r .links }
-context-ranged x (Advertise name kind location room) i r = r
+context-ranged x (Subscribe service room) i r = record { seed = r .seed; timer = r .timer; phase = r .phase; links = r .links }
+context-ranged x (Advertise name service location room) i r = r
 context-ranged x (Deadvertise name room) i r = r
 context-ranged x (Refresh room) i r = r
 context-ranged x (Datagram time sender receiver s) i r = r
@@ -115,7 +115,7 @@ context-ranged x (ResetTimer time) i r = record { seed = r .seed; timer = r .tim
 
 -- ---- the names
 abbrev ActFits : Act → Type 0
-ActFits (Enters name kind location) = Unit {0}
+ActFits (Enters name service location) = Unit {0}
 ActFits (Leaves name) = Unit {0}
 ActFits (Asks q) = SenderFits (q .sender) (q .receiver)
 ActFits (Ticks time) = Unit {0}
@@ -133,8 +133,8 @@ acts-fit (NewLink index flags outcome room) h = nobody
 acts-fit (DeletedLink index outcome) h = nobody
 acts-fit (NewAddress index address room) h = nobody
 acts-fit (DeletedAddress index address) h = nobody
-acts-fit (Subscribe kind room) h = nobody
-acts-fit (Advertise name kind location room) h = both {a = Enters name kind location} tt nobody
+acts-fit (Subscribe service room) h = nobody
+acts-fit (Advertise name service location room) h = both {a = Enters name service location} tt nobody
 acts-fit (Deadvertise name room) h = both {a = Leaves name} tt nobody
 acts-fit (Refresh room) h = nobody
 acts-fit (Datagram time sender receiver s) h = asks-fit time sender receiver s (parsed s .message) h
@@ -151,22 +151,22 @@ need-fits true due q s None h = s
 need-fits true due q s (Multicast d) h = tt
 need-fits true due q s (Unicast d sender receiver) h = shared-fits (sameSender sender (q .sender)) d sender receiver h
 
-kind-fits : (b : Bool) (target kind : Text) → length target ≤ typeMax → length kind ≤ typeMax → length (cond b kind target) ≤ typeMax
-kind-fits true target kind h g = g
-kind-fits false target kind h g = h
+service-fits : (b : Bool) (target service : Text) → length target ≤ typeMax → length service ≤ typeMax → length (cond b service target) ≤ typeMax
+service-fits true target service h g = g
+service-fits false target service h g = h
 
-answer-fits : (b : Bool) (q : Query) (kind : Text) → length (q .target) ≤ typeMax → length kind ≤ typeMax → (n : ResponseNeeded) (answer : Text) →
-    length answer ≤ typeMax → length (askedAnswer b q kind n answer) ≤ typeMax
-answer-fits false q kind h g n answer k = k
-answer-fits true q kind h g None answer k = kind-fits (equal (q .target) ssdpAll) (q .target) kind h g
-answer-fits true q kind h g (Multicast d) answer k = k
-answer-fits true q kind h g (Unicast d sender receiver) answer k = k
+answer-fits : (b : Bool) (q : Query) (service : Text) → length (q .target) ≤ typeMax → length service ≤ typeMax → (n : ResponseNeeded) (answer : Text) →
+    length answer ≤ typeMax → length (askedAnswer b q service n answer) ≤ typeMax
+answer-fits false q service h g n answer k = k
+answer-fits true q service h g None answer k = service-fits (equal (q .target) ssdpAll) (q .target) service h g
+answer-fits true q service h g (Multicast d) answer k = k
+answer-fits true q service h g (Unicast d sender receiver) answer k = k
 
 asked-fits : (due : ℕ) (q : Query) → SenderFits (q .sender) (q .receiver) → length (q .target) ≤ typeMax → (a : Advertisement) → TextsFit a × Answerable a → Answerable (asked due q a)
 unfolding asked
 asked-fits due q s l a f = record {
   needed = need-fits (hits q a) due q s (a .needed) (f .1 .needed);
-  answer = answer-fits (hits q a) q (a .kind) l (f .0 .kind .size) (a .needed) (a .answer) (f .1 .answer);
+  answer = answer-fits (hits q a) q (a .service) l (f .0 .service .size) (a .needed) (a .answer) (f .1 .answer);
 }
 
 served-reply : (b : Bool) (n : ResponseNeeded) → ReplyFits n → ReplyFits (servedNeed b n)
@@ -180,7 +180,7 @@ served-fits time a f = record { needed = served-reply (isDue time (a .needed)) (
 result-fits : (seed : ℕ) (x : Act) (as′ : List Advertisement) → Brings as′ x → ActFits x → Each TextsFit as′ → Each Answerable as′ →
     Each Answerable (result seed as′ x .advertisements)
 unfolding result
-result-fits seed (Enters name kind location) as′ b s t h = each-enter advertised (newcomer name kind location) (record { needed = tt; answer = omega arith }) h
+result-fits seed (Enters name service location) as′ b s t h = each-enter advertised (newcomer name service location) (record { needed = tt; answer = omega arith }) h
 result-fits seed (Leaves name) as′ b s t h = each-leave advertised name h
 result-fits seed (Asks q) as′ b s t h = let due = q .time + delay seed (q .mx) in each-map (asked due q) (asked-fits due q s b) (each-both t h)
 result-fits seed (Ticks time) as′ b s t h = each-map (served time) (served-fits time) h
@@ -201,7 +201,7 @@ fits-fresh seed time h = record {
   replies = nobody;
 }
 
-pub fits-accepted : (h : Held) (c : Call) → turned h c ≡ 0 → InRange c → Fits h → Fits (accepted h c .after)
+pub fits-accepted : (h : Held) (c : Call) → refusalOf h c ≡ 0 → InRange c → Fits h → Fits (accepted h c .after)
 unfolding accepted
 fits-accepted h c e i f = record {
   reachable = accepted-reachable laws h c e (f .reachable);

@@ -21,7 +21,7 @@ use Rattle.engine.specs.Links.{addressesOf, anyUp, contains, lastInto, isV4, ad
 use Rattle.engine.specs.Records.{isDue}
 use Rattle.engine.specs.Replies.{sameSender, shared, askedNeed, askedAnswer, hits, asked, servedNeed, served, newcomer, result, results}
 use Rattle.engine.specs.Refusals.{Names, checks}
-use Rattle.engine.specs.Engine.{namesOf, turned, Step, accepted, unless, step}
+use Rattle.engine.specs.Engine.{namesOf, refusalOf, Step, accepted, unless, step}
 use Rattle.engine.specs.declared.advertisement.Endpoint.{Endpoint}
 use Rattle.engine.specs.declared.advertisement.ResponseNeeded.{ResponseNeeded}
 use Rattle.engine.specs.declared.advertisement.ResponseNeeded.the-variants.{None, Multicast, Unicast}
@@ -40,7 +40,7 @@ AnswerFits (Unicast due sender receiver) answer = Fits typeMax answer
 
 pub record TextsFit (a : Advertisement) : Type 0 where
   pub name : Fits nameMax (a .name)
-  pub kind : Fits typeMax (a .kind)
+  pub service : Fits typeMax (a .service)
   pub location : Fits locationMax (a .location)
   pub answer : AnswerFits (a .needed) (a .answer)
 
@@ -88,29 +88,29 @@ entered-few a l false e f h = omega (arith, leb-false advertisementsMax (length 
 
 -- the answer type of a search that opens a wait
 module _ (laws : Laws) where
-  target-fits : (target kind : Text) → length target ≤ typeMax → targetMatch target kind ≡ true → Fits typeMax kind → (b : Bool) →
-      equal target ssdpAll ≡ b → Fits typeMax (cond b kind target)
-  target-fits target kind l m f true e = f
-  target-fits target kind l m f false e = record { size = l; good = laws .match-good target kind m e (f .good) }
+  target-fits : (target service : Text) → length target ≤ typeMax → targetMatch target service ≡ true → Fits typeMax service → (b : Bool) →
+      equal target ssdpAll ≡ b → Fits typeMax (cond b service target)
+  target-fits target service l m f true e = f
+  target-fits target service l m f false e = record { size = l; good = laws .match-good target service m e (f .good) }
 
   shared-fits : (b : Bool) (due : ℕ) (sender : Endpoint) (receiver : ℕ) (answer : Text) → Fits typeMax answer → AnswerFits (shared b due sender receiver) answer
   shared-fits true due sender receiver answer h = h
   shared-fits false due sender receiver answer h = tt
 
-  asked-fits : (b : Bool) (due : ℕ) (q : Query) (kind : Text) → targetMatch (q .target) kind ≡ b → length (q .target) ≤ typeMax → Fits typeMax kind →
-      (d : ResponseNeeded) (answer : Text) → AnswerFits d answer → AnswerFits (askedNeed b due q d) (askedAnswer b q kind d answer)
-  asked-fits false due q kind m l f d answer h = h
-  asked-fits true due q kind m l f None answer h = target-fits (q .target) kind l m f (equal (q .target) ssdpAll) refl
-  asked-fits true due q kind m l f (Multicast d) answer h = tt
-  asked-fits true due q kind m l f (Unicast d sender receiver) answer h = shared-fits (sameSender sender (q .sender)) d sender receiver answer h
+  asked-fits : (b : Bool) (due : ℕ) (q : Query) (service : Text) → targetMatch (q .target) service ≡ b → length (q .target) ≤ typeMax → Fits typeMax service →
+      (d : ResponseNeeded) (answer : Text) → AnswerFits d answer → AnswerFits (askedNeed b due q d) (askedAnswer b q service d answer)
+  asked-fits false due q service m l f d answer h = h
+  asked-fits true due q service m l f None answer h = target-fits (q .target) service l m f (equal (q .target) ssdpAll) refl
+  asked-fits true due q service m l f (Multicast d) answer h = tt
+  asked-fits true due q service m l f (Unicast d sender receiver) answer h = shared-fits (sameSender sender (q .sender)) d sender receiver answer h
 
   asked-fit : (due : ℕ) (q : Query) → length (q .target) ≤ typeMax → (a : Advertisement) → TextsFit a → TextsFit (asked due q a)
   unfolding asked
   asked-fit due q l a f = record {
     name = f .name;
-    kind = f .kind;
+    service = f .service;
     location = f .location;
-    answer = asked-fits (hits q a) due q (a .kind) refl l (f .kind) (a .needed) (a .answer) (f .answer);
+    answer = asked-fits (hits q a) due q (a .service) refl l (f .service) (a .needed) (a .answer) (f .answer);
   }
 
 served-fits : (b : Bool) (d : ResponseNeeded) (answer : Text) → AnswerFits d answer → AnswerFits (servedNeed b d) answer
@@ -121,7 +121,7 @@ served-fit : (now : ℕ) (a : Advertisement) → TextsFit a → TextsFit (served
 unfolding served
 served-fit now a f = record {
   name = f .name;
-  kind = f .kind;
+  service = f .service;
   location = f .location;
   answer = served-fits (isDue now (a .needed)) (a .needed) (a .answer) (f .answer);
 }
@@ -129,10 +129,10 @@ served-fit now a f = record {
 module _ (laws : Laws) where
   result-listed : (seed : ℕ) (x : Act) (as′ : List Advertisement) → Brings as′ x → Listed as′ → Listed (result seed as′ x .advertisements)
   unfolding result
-  result-listed seed (Enters name kind location) as′ b h = record {
-    order = ascending-enter advertised by-name (newcomer name kind location) (h .order);
-    few = entered-few (newcomer name kind location) as′ (known advertised name as′) refl (b .3) (h .few);
-    fit = each-enter advertised (newcomer name kind location) (record { name = b .0; kind = b .1; location = b .2; answer = tt }) (h .fit);
+  result-listed seed (Enters name service location) as′ b h = record {
+    order = ascending-enter advertised by-name (newcomer name service location) (h .order);
+    few = entered-few (newcomer name service location) as′ (known advertised name as′) refl (b .3) (h .few);
+    fit = each-enter advertised (newcomer name service location) (record { name = b .0; service = b .1; location = b .2; answer = tt }) (h .fit);
   }
   result-listed seed (Leaves name) as′ b h = record {
     order = ascending-leave advertised by-name name (h .order);
@@ -218,8 +218,8 @@ linked-after x n (DeletedAddress index address) p h =
     (λ t.
     let k = and-true (isV4 address) (known byIndex index ls) t in
     linked-enter b ls (omega (arith, last-few (addressOf address) held, at-few index ls (h .addresses))) (known-few b ls (k .1) (h .few)) h) h
-linked-after x n (Subscribe kind room) p h = h
-linked-after x n (Advertise name kind location room) p h = h
+linked-after x n (Subscribe service room) p h = h
+linked-after x n (Advertise name service location room) p h = h
 linked-after x n (Deadvertise name room) p h = h
 linked-after x n (Refresh room) p h = h
 linked-after x n (Datagram now sender receiver s) p h = h
@@ -232,11 +232,11 @@ subscribed-after x n (NewLink index flags outcome room) p h = h
 subscribed-after x n (DeletedLink index outcome) p h = h
 subscribed-after x n (NewAddress index address room) p h = h
 subscribed-after x n (DeletedAddress index address) p h = h
-subscribed-after x n (Subscribe kind room) p h = record {
-  few = omega (arith, length-append (x .subscriptions) (kind ∷ []), leb-false subscriptionsMax (length (x .subscriptions)) (p .1 .1 .1 .0));
-  fit = each-append (h .fit) (both (fits-passed typeMax kind (p .1 .0) (p .1 .1 .0)) nobody);
+subscribed-after x n (Subscribe service room) p h = record {
+  few = omega (arith, length-append (x .subscriptions) (service ∷ []), leb-false subscriptionsMax (length (x .subscriptions)) (p .1 .1 .1 .0));
+  fit = each-append (h .fit) (both (fits-passed typeMax service (p .1 .0) (p .1 .1 .0)) nobody);
 }
-subscribed-after x n (Advertise name kind location room) p h = h
+subscribed-after x n (Advertise name service location room) p h = h
 subscribed-after x n (Deadvertise name room) p h = h
 subscribed-after x n (Refresh room) p h = h
 subscribed-after x n (Datagram now sender receiver s) p h = h
@@ -252,8 +252,8 @@ reachable-fresh seed time = record {
   subscribed = record { few = omega arith; fit = nobody };
 }
 
-pub accepted-reachable : Laws → (h : Held) (c : Call) → turned h c ≡ 0 → Reachable h → Reachable (accepted h c .after)
-unfolding accepted turned
+pub accepted-reachable : Laws → (h : Held) (c : Call) → refusalOf h c ≡ 0 → Reachable h → Reachable (accepted h c .after)
+unfolding accepted refusalOf
 accepted-reachable laws h c e r =
     let p = passed (h .context) (namesOf h c) c e in
     record {
@@ -268,4 +268,4 @@ unless-reachable (suc k) h s f r = r
 
 pub reachable-step : Laws → (h : Held) (c : Call) → Reachable h → Reachable (step h c .after)
 unfolding step
-reachable-step laws h c r = unless-reachable (turned h c) h (accepted h c) (λ e. accepted-reachable laws h c e r) r
+reachable-step laws h c r = unless-reachable (refusalOf h c) h (accepted h c) (λ e. accepted-reachable laws h c e r) r

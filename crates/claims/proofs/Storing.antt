@@ -14,7 +14,7 @@ use Rattle.engine.specs.Sizes.{addressesMax, locationMax}
 use Rattle.engine.specs.Rows.{rows}
 use Rattle.engine.specs.Held.{Text, Link, Context, Advertisement, Held, holding}
 use Rattle.engine.specs.Records.{flat}
-use Rattle.engine.specs.Arrays.{low32, seedIn, timerIn, linkWidth, linkNumbers, linkIn, linkRows, linksIn, searchWidth, searchBytes, searchIn, searchRows, searchesIn, numbersWidth, numbersSize, kindPlace, locationPlace, answerPlace, textsWidth, textsSize, replyOf, replyIn, entryIn, entries, namesIn, Engine, engine, held}
+use Rattle.engine.specs.Arrays.{low32, seedIn, timerIn, linkWidth, linkNumbers, linkIn, linkRows, linksIn, searchWidth, searchBytes, searchIn, searchRows, searchesIn, numbersWidth, numbersSize, servicePlace, locationPlace, answerPlace, textsWidth, textsSize, replyOf, replyIn, entryIn, entries, namesIn, Engine, engine, held}
 use Rattle.claims.specs.EveryList.{Byte, Word, SenderFits, Sized}
 use Rattle.engine.specs.declared.advertisement.ResponseNeeded.{ResponseNeeded}
 use Rattle.engine.specs.declared.advertisement.ResponseNeeded.the-variants.{None, Multicast, Unicast}
@@ -143,16 +143,16 @@ replyNumbers (Multicast due) = 1 ∷ due ∷ 0 ∷ 0 ∷ 0 ∷ []
 replyNumbers (Unicast due sender receiver) = 2 ∷ due ∷ sender .address ∷ sender .port ∷ receiver ∷ []
 
 numberRow : Advertisement → List ℕ
-numberRow a = length (a .name) ∷ length (a .kind) ∷ length (a .location) ∷ length (a .answer) ∷ replyNumbers (a .needed)
+numberRow a = length (a .name) ∷ length (a .service) ∷ length (a .location) ∷ length (a .answer) ∷ replyNumbers (a .needed)
 
 textRow : Advertisement → List ℕ
-textRow a = pad nameMax (a .name) ++ (pad typeMax (a .kind) ++ (pad locationMax (a .location) ++ pad typeMax (a .answer)))
+textRow a = pad nameMax (a .name) ++ (pad typeMax (a .service) ++ (pad locationMax (a .location) ++ pad typeMax (a .answer)))
 
 numbers-sized : (a : Advertisement) → NameFits a → length (numberRow a) ≡ numbersWidth
 unfolding numberRow replyNumbers
 numbers-sized a f = go (a .needed)
   where
-    go : (n : ResponseNeeded) → length (length (a .name) ∷ length (a .kind) ∷ length (a .location) ∷ length (a .answer) ∷ replyNumbers n) ≡ numbersWidth
+    go : (n : ResponseNeeded) → length (length (a .name) ∷ length (a .service) ∷ length (a .location) ∷ length (a .answer) ∷ replyNumbers n) ≡ numbersWidth
     go None = refl
     go (Multicast due) = refl
     go (Unicast due sender receiver) = refl
@@ -161,7 +161,7 @@ texts-sized : (a : Advertisement) → NameFits a → length (textRow a) ≡ text
 unfolding textRow NameFits
 texts-sized a f =
     let P = pad nameMax (a .name) in
-    let K = pad typeMax (a .kind) in
+    let K = pad typeMax (a .service) in
     let L = pad locationMax (a .location) in
     let A = pad typeMax (a .answer) in
     omega (
@@ -170,7 +170,7 @@ texts-sized a f =
       length-append K (L ++ A),
       length-append L A,
       pad-length nameMax (a .name) (f .0 .name .size),
-      pad-length typeMax (a .kind) (f .0 .kind .size),
+      pad-length typeMax (a .service) (f .0 .service .size),
       pad-length locationMax (a .location) (f .0 .location .size),
       pad-length typeMax (a .answer) (f .1 .answer),
     )
@@ -192,11 +192,11 @@ entry-back : (a : Advertisement) → NameFits a → entryIn (numberRow a) (textR
 unfolding numberRow textRow entryIn NameFits replyNumbers
 entry-back a f =
     let P = pad nameMax (a .name) in
-    let K = pad typeMax (a .kind) in
+    let K = pad typeMax (a .service) in
     let L = pad locationMax (a .location) in
     let A = pad typeMax (a .answer) in
     let p = pad-length nameMax (a .name) (f .0 .name .size) in
-    let k = pad-length typeMax (a .kind) (f .0 .kind .size) in
+    let k = pad-length typeMax (a .service) (f .0 .service .size) in
     let l = pad-length locationMax (a .location) (f .0 .location .size) in
     let pk : length (P ++ K) ≡ locationPlace = omega (arith, length-append P K) in
     let pkl : length ((P ++ K) ++ L) ≡ answerPlace = omega (arith, length-append (P ++ K) L) in
@@ -204,13 +204,13 @@ entry-back a f =
     let third : P ++ (K ++ (L ++ A)) ≡ ((P ++ K) ++ L) ++ (A ++ []) =
     second ∙ sym (append-assoc (P ++ K) L A) ∙ ap (λ (x : List ℕ). ((P ++ K) ++ L) ++ x) (sym (append-nil A)) in
     let name = text-back [] (K ++ (L ++ A)) 0 nameMax (a .name) refl (f .0 .name .size) in
-    let kind = text-back P (L ++ A) kindPlace typeMax (a .kind) p (f .0 .kind .size) in
+    let service = text-back P (L ++ A) servicePlace typeMax (a .service) p (f .0 .service .size) in
     let location = ap (λ (x : List ℕ). take (length (a .location)) (take locationMax (drop locationPlace x))) second
     ∙ text-back (P ++ K) A locationPlace locationMax (a .location) pk (f .0 .location .size) in
     let answer = ap (λ (x : List ℕ). take (length (a .answer)) (take typeMax (drop answerPlace x))) third
     ∙ text-back ((P ++ K) ++ L) [] answerPlace typeMax (a .answer) pkl (f .1 .answer) in
-    let needed = reply-back (length (a .name)) (length (a .kind)) (length (a .location)) (length (a .answer)) (a .needed) (f .1 .needed) in
-    λ j. record { name = name j; kind = kind j; location = location j; needed = needed j; answer = answer j }
+    let needed = reply-back (length (a .name)) (length (a .service)) (length (a .location)) (length (a .answer)) (a .needed) (f .1 .needed) in
+    λ j. record { name = name j; service = service j; location = location j; needed = needed j; answer = answer j }
 
 -- ---- the arrays
 unfoldable pub headOf : Held → List ℕ
@@ -236,7 +236,7 @@ engineOf h =
     (textArray (h .advertisements))
 
 -- a timeout keeps the texts
-pub texts-kept : (f : Advertisement → Advertisement) → ((a : Advertisement) → (f a .name ≡ a .name) × (f a .kind ≡ a .kind) × (f a .location ≡ a .location) × (f a .answer ≡ a .answer)) →
+pub texts-kept : (f : Advertisement → Advertisement) → ((a : Advertisement) → (f a .name ≡ a .name) × (f a .service ≡ a .service) × (f a .location ≡ a .location) × (f a .answer ≡ a .answer)) →
     (l : List Advertisement) → textArray (map f l) ≡ textArray l
 unfolding textArray flat textRow
 texts-kept f e l = ap (pad textsSize) (go l)

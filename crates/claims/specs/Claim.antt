@@ -46,8 +46,8 @@ lastWaiting (a ∷ as′) = a .waiting
 -- Behind each later call the name is held with that very wait; so an equal search whose wait was dropped or sent before is not its opener.
 pub data Opened (seed time : ℕ) : List Call → Name → Type 0 where
   here : {c : Call} {cs : List Call} {n : Name} (q : Query) → refusalIn (ledgerOf seed time cs) c ≡ 0 → acts c ≡ Asks q ∷ [] →
-      In n (ledgerOf seed time cs .names) → n .wait ≡ none → targetMatch (q .target) (n .kind) ≡ true →
-      Opened seed time (c ∷ cs) (withWait n (some (opened seed q (n .kind))))
+      In n (ledgerOf seed time cs .names) → n .wait ≡ none → targetMatch (q .target) (n .service) ≡ true →
+      Opened seed time (c ∷ cs) (withWait n (some (opened seed q (n .service))))
   later : {c : Call} {cs : List Call} {n : Name} → Opened seed time cs n → In n (ledgerOf seed time (c ∷ cs) .names) → Opened seed time (c ∷ cs) n
 
 -- how many calls of the list came behind the opener
@@ -72,7 +72,7 @@ pub record Lone (seed time : ℕ) (cs : List Call) (n : Name) (w : Wait) : Type 
   pub reply : repliesTo (upAddresses (ledgerOf seed time cs .context .links)) n (n .wait) ≡ loneReply n w ∷ []
   pub opening : Opened seed time cs n
   pub sole : (o : Opened seed time cs n) → since o ≡ since opening
-  pub matching : targetMatch (w .answer) (n .kind) ≡ true
+  pub matching : targetMatch (w .answer) (n .service) ≡ true
 
 -- an accepted handle_timeout, behind the calls cs; rs are the records that it writes
 pub record Serves (seed time : ℕ) (cs : List Call) (now : ℕ) (r : Answered) (rs : List Record) : Type 0 where

@@ -30,7 +30,7 @@ pub record Wait : Type 0 where
 -- a name with its type, its location and its wait, if it has one
 pub record Name : Type 0 where
   pub name : Text
-  pub kind : Text
+  pub service : Text
   pub location : Text
   pub wait : Option Wait
 
@@ -39,7 +39,7 @@ abbrev pub named : Key Text Name
 named = byName (λ n. n .name)
 
 abbrev pub withWait : Name → Option Wait → Name
-withWait n w = record { name = n .name; kind = n .kind; location = n .location; wait = w }
+withWait n w = record { name = n .name; service = n .service; location = n .location; wait = w }
 
 abbrev pub waitCount : Option Wait → ℕ
 waitCount none = 0
@@ -60,11 +60,11 @@ unchanged w = record { wait = w; adds = zeros }
 
 -- a search opens a wait where there is none; the answer type is the target, or the name's type for `ssdp:all`
 abbrev pub opened : ℕ → Query → Text → Wait
-opened seed q kind = record {
+opened seed q service = record {
   due = q .time + delay seed (q .mx);
   sender = q .sender;
   receiver = q .receiver;
-  answer = cond (equal (q .target) ssdpAll) kind (q .target);
+  answer = cond (equal (q .target) ssdpAll) service (q .target);
   group = false;
 }
 
@@ -83,10 +83,10 @@ joined q w = record {
 
 -- a search, which matches the name's type or not
 abbrev pub searched : Bool → ℕ → Query → Text → Option Wait → Change
-searched false seed q kind w = unchanged w
-searched true seed q kind none =
-    record { wait = some (opened seed q kind); adds = record { matched = 1; joined = 0; alone = 0; group = 0; dropped = 0 } }
-searched true seed q kind (some w) =
+searched false seed q service w = unchanged w
+searched true seed q service none =
+    record { wait = some (opened seed q service); adds = record { matched = 1; joined = 0; alone = 0; group = 0; dropped = 0 } }
+searched true seed q service (some w) =
     record { wait = some (joined q w); adds = record { matched = 1; joined = 1; alone = 0; group = 0; dropped = 0 } }
 
 -- a wait due at or before now
@@ -105,31 +105,31 @@ timedOut true none = unchanged none
 timedOut true (some w) = record { wait = none; adds = sentTo (w .group) }
 
 -- ---- what an act makes of all names
-pub record Turn : Type 0 where
+pub record Acted : Type 0 where
   pub names : List Name
   pub adds : Counts
 
-unfoldable pub each : (Name → Change) → List Name → Turn
+unfoldable pub each : (Name → Change) → List Name → Acted
 each f [] = record { names = []; adds = zeros }
 each f (n ∷ ns) = record { names = withWait n (f n .wait) ∷ each f ns .names; adds = plus (f n .adds) (each f ns .adds) }
 
 abbrev pub dropping : ℕ → Counts
 dropping n = record { matched = 0; joined = 0; alone = 0; group = 0; dropped = n }
 
-unfoldable pub turn : ℕ → List Name → Act → Turn
-turn seed ns (Enters name kind location) = record {
-  names = enter named (record { name = name; kind = kind; location = location; wait = none }) ns;
+unfoldable pub acted : ℕ → List Name → Act → Acted
+acted seed ns (Enters name service location) = record {
+  names = enter named (record { name = name; service = service; location = location; wait = none }) ns;
   adds = dropping (waitsIn (entryOf named name ns));
 }
-turn seed ns (Leaves name) = record { names = leave named name ns; adds = dropping (waitsIn (entryOf named name ns)) }
-turn seed ns (Asks q) = each (λ n. searched (targetMatch (q .target) (n .kind)) seed q (n .kind) (n .wait)) ns
-turn seed ns (Ticks now) = each (λ n. timedOut (dueAt now (n .wait)) (n .wait)) ns
+acted seed ns (Leaves name) = record { names = leave named name ns; adds = dropping (waitsIn (entryOf named name ns)) }
+acted seed ns (Asks q) = each (λ n. searched (targetMatch (q .target) (n .service)) seed q (n .service) (n .wait)) ns
+acted seed ns (Ticks now) = each (λ n. timedOut (dueAt now (n .wait)) (n .wait)) ns
 
-unfoldable pub turns : ℕ → List Name → List Act → Turn
-turns seed ns [] = record { names = ns; adds = zeros }
-turns seed ns (x ∷ xs) =
-    let t = turn seed ns x in
-    let u = turns seed (t .names) xs in
+unfoldable pub actedAll : ℕ → List Name → List Act → Acted
+actedAll seed ns [] = record { names = ns; adds = zeros }
+actedAll seed ns (x ∷ xs) =
+    let t = acted seed ns x in
+    let u = actedAll seed (t .names) xs in
     record { names = u .names; adds = plus (t .adds) (u .adds) }
 
 -- ---- the ledger: what is held by the document's rules, and the names
@@ -149,7 +149,7 @@ pub record Entry : Type 0 where
 
 unfoldable pub entered : Ledger → Call → Entry
 entered l c =
-    let t = turns (l .context .seed) (l .names) (acts c) in
+    let t = actedAll (l .context .seed) (l .names) (acts c) in
     record { ledger = record { context = contextAfter (l .context) c; names = t .names }; adds = t .adds }
 
 abbrev pub ifAccepted : ℕ → Ledger → Entry → Entry
@@ -174,7 +174,7 @@ sumsOf seed time (c ∷ cs) = plus (entry (ledgerOf seed time cs) c .adds) (sums
 -- ---- what the ledger sends
 -- a name's notify, from each of these addresses
 abbrev pub announced : List ℕ → Name → List Record
-announced up n = map (λ source. NotifyFrom source (n .kind) (n .name) (n .location)) up
+announced up n = map (λ source. NotifyFrom source (n .service) (n .name) (n .location)) up
 
 -- the refresh records: all names, then the searches, from each address on an up link
 unfoldable pub ledgerRefresh : Context → List Name → List Record

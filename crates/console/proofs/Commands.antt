@@ -8,16 +8,16 @@ use lib.Dec.{ltb}
 use lib.ListN.{length, take}
 use Rattle.text.specs.Bytes.{equal, indexOf}
 use Rattle.console.specs.Field.{fieldAt}
-use Rattle.console.specs.Command.{Taking, rowOf, wordIn, isReadable, handed, reads, readsAs, five, kindsOf, dataAt, listed, fed, built, readable, command}
-use Rattle.console.specs.declared.field.Kind.{Kind}
-use Rattle.console.specs.declared.field.Kind.the-variants.{Nothing}
+use Rattle.console.specs.Command.{Taking, rowOf, wordIn, isReadable, handed, reads, readsAs, five, formsOf, dataAt, listed, fed, built, readable, command}
+use Rattle.console.specs.declared.field.Form.{Form}
+use Rattle.console.specs.declared.field.Form.the-variants.{Nothing}
 use Rattle.console.specs.declared.field.Datum.{Datum}
 use Rattle.console.specs.declared.field.Field.{Field}
 use Rattle.console.specs.declared.command.Word.{Word}
 use Rattle.console.specs.declared.command.Word.the-variants as word
 use Rattle.console.specs.declared.command.Command.{Command}
 use Rattle.console.specs.declared.command.Command.the-variants.{Unreadable}
-use Rattle.console.specs.declared.command.Kinds.{Kinds}
+use Rattle.console.specs.declared.command.Forms.{Forms}
 use Rattle.console.specs.declared.command.Data.{Data}
 
 -- the first of some words, or one of the others
@@ -30,7 +30,7 @@ unfolding wordIn
 first-word w ws s e q = e ∙ ap (cond (equal s (rowOf w .word)) w) q
 
 -- five fields, each read where the one before ended
-pub in-a-row : (line : List ℕ) (at : ℕ) (ks : Kinds) {a b c d e : Field} → a ≡ fieldAt line at (ks .first) → b ≡ fieldAt line (a .next) (ks .second)
+pub in-a-row : (line : List ℕ) (at : ℕ) (ks : Forms) {a b c d e : Field} → a ≡ fieldAt line at (ks .first) → b ≡ fieldAt line (a .next) (ks .second)
     → c ≡ fieldAt line (b .next) (ks .third) → d ≡ fieldAt line (c .next) (ks .fourth) → e ≡ fieldAt line (d .next) (ks .fifth)
     → record { first = a .datum; second = b .datum; third = c .datum; fourth = d .datum; fifth = e .datum; next = e .next } ≡ dataAt line at ks
 unfolding dataAt
@@ -58,11 +58,11 @@ all-five {a} {a′} {b} {b′} {c} {c′} {d} {d′} {e} {e′} p q r s t =
     ∙ ap (λ (x : Bool). a′ && (b′ && (c′ && (x && e)))) s ∙ ap (λ (x : Bool). a′ && (b′ && (c′ && (d′ && x)))) t
 
 -- the data of fields in a row, and where the next would begin
-datums : List ℕ → ℕ → List Kind → List Datum
+datums : List ℕ → ℕ → List Form → List Datum
 datums line at [] = []
 datums line at (k ∷ ks) = fieldAt line at k .datum ∷ datums line (fieldAt line at k .next) ks
 
-behind : List ℕ → ℕ → List Kind → ℕ
+behind : List ℕ → ℕ → List Form → ℕ
 behind line at [] = at
 behind line at (k ∷ ks) = behind line (fieldAt line at k .next) ks
 
@@ -71,7 +71,7 @@ all-readable [] = true
 all-readable (d ∷ ds) = isReadable d && all-readable ds
 
 -- fields that a row lacks are read as nothing, and take nothing
-lacking : ℕ → List Kind
+lacking : ℕ → List Form
 lacking zero = []
 lacking (suc m) = Nothing ∷ lacking m
 
@@ -86,7 +86,7 @@ lacks-end line at zero = refl
 lacks-end line at (suc m) = lacks-end line at m
 
 -- a row's fields are readable, and no further one follows, or the line is unreadable
-row-read : (line : List ℕ) (ks : List Kind) (f : Taking ks) (at m : ℕ)
+row-read : (line : List ℕ) (ks : List Form) (f : Taking ks) (at m : ℕ)
     → reads line ks f at
     ≡ cond (all-readable (datums line at (ks ++ lacking m)) && ltb (length line) (behind line at (ks ++ lacking m))) (fed ks f (datums line at (ks ++ lacking m))) Unreadable
 unfolding reads fed datums behind all-readable
@@ -105,12 +105,12 @@ row-read line (k ∷ ks) f at m = go (isReadable (fieldAt line at k .datum)) (ro
     go true e = e
     go false e = refl
 
--- the five kinds of a row are its own and those that it lacks
-kind-list : Kinds → List Kind
-kind-list ks = ks .first ∷ ks .second ∷ ks .third ∷ ks .fourth ∷ ks .fifth ∷ []
+-- the five forms of a row are its own and those that it lacks
+form-list : Forms → List Form
+form-list ks = ks .first ∷ ks .second ∷ ks .third ∷ ks .fourth ∷ ks .fifth ∷ []
 
-pad : (ks : List Kind) → length ks ≤ 5 → kind-list (five ks) ≡ ks ++ lacking (5 - length ks)
-unfolding kind-list lacking
+pad : (ks : List Form) → length ks ≤ 5 → form-list (five ks) ≡ ks ++ lacking (5 - length ks)
+unfolding form-list lacking
 pad [] h = refl
 pad (a ∷ []) h = refl
 pad (a ∷ b ∷ []) h = refl
@@ -119,7 +119,7 @@ pad (a ∷ b ∷ c ∷ d ∷ []) h = refl
 pad (a ∷ b ∷ c ∷ d ∷ e ∷ []) h = refl
 pad (a ∷ b ∷ c ∷ d ∷ e ∷ f ∷ ks) h = absurd (omega arith)
 
-short : (w : Word) → length (rowOf w .kinds) ≤ 5
+short : (w : Word) → length (rowOf w .forms) ≤ 5
 short word.Unknown = omega arith
 short word.New = omega arith
 short word.Link = omega arith
@@ -149,21 +149,21 @@ five-readable d =
 
 row-data : (line : List ℕ) (at : ℕ) (w : Word)
     → readsAs line (rowOf w) at
-    ≡ cond (readable (dataAt line at (kindsOf w)) && ltb (length line) (dataAt line at (kindsOf w) .next)) (built w (dataAt line at (kindsOf w))) Unreadable
-unfolding readsAs built dataAt datums behind kind-list
+    ≡ cond (readable (dataAt line at (formsOf w)) && ltb (length line) (dataAt line at (formsOf w) .next)) (built w (dataAt line at (formsOf w))) Unreadable
+unfolding readsAs built dataAt datums behind form-list
 row-data line at w =
-    let kinds = rowOf w .kinds in
+    let forms = rowOf w .forms in
     let gives = rowOf w .gives in
-    row-read line kinds gives at (5 - length kinds)
-    ∙ ap (λ (ks : List Kind). cond (all-readable (datums line at ks) && ltb (length line) (behind line at ks)) (fed kinds gives (datums line at ks)) Unreadable)
-    (sym (pad kinds (short w)))
-    ∙ ap (λ (t : Bool). cond (t && ltb (length line) (dataAt line at (kindsOf w) .next)) (built w (dataAt line at (kindsOf w))) Unreadable)
-    (five-readable (dataAt line at (kindsOf w)))
+    row-read line forms gives at (5 - length forms)
+    ∙ ap (λ (ks : List Form). cond (all-readable (datums line at ks) && ltb (length line) (behind line at ks)) (fed forms gives (datums line at ks)) Unreadable)
+    (sym (pad forms (short w)))
+    ∙ ap (λ (t : Bool). cond (t && ltb (length line) (dataAt line at (formsOf w) .next)) (built w (dataAt line at (formsOf w))) Unreadable)
+    (five-readable (dataAt line at (formsOf w)))
 
-pub read-by : (line : List ℕ) (at : ℕ) (w : Word) {ks : Kinds} {fields : Data} {q : Bool} → ks ≡ kindsOf w → fields ≡ dataAt line at ks → q ≡ readable fields
+pub read-by : (line : List ℕ) (at : ℕ) (w : Word) {ks : Forms} {fields : Data} {q : Bool} → ks ≡ formsOf w → fields ≡ dataAt line at ks → q ≡ readable fields
     → readsAs line (rowOf w) at ≡ cond (q && ltb (length line) (fields .next)) (built w fields) Unreadable
 read-by line at w {ks} {fields} {q} e f g =
-    let is : fields ≡ dataAt line at (kindsOf w) = f ∙ ap (dataAt line at) e in
+    let is : fields ≡ dataAt line at (formsOf w) = f ∙ ap (dataAt line at) e in
     row-data line at w
     ∙ ap (λ (d : Data). cond (readable d && ltb (length line) (d .next)) (built w d) Unreadable) (sym is)
     ∙ ap (λ (t : Bool). cond (t && ltb (length line) (fields .next)) (built w fields) Unreadable) (sym g)

@@ -1,4 +1,4 @@
--- Laws of a line's fields: what is read by a test on the kind, on a number's size, on the place.
+-- Laws of a line's fields: what is read by a test on the form, on a number's size, on the place.
 use mathlib.Core.Path.{_≡_, sym, _∙_, ap}
 use mathlib.Core.Bool.{Bool, true, false, cond}
 use mathlib.Core.List.{List}
@@ -9,17 +9,17 @@ use Rattle.text.specs.Bytes.{indexOf}
 use Rattle.text.specs.declared.number.Number.{Number}
 use Rattle.text.specs.declared.number.Number.the-variants.{Value}
 use Rattle.console.specs.Field.{isNothing, isRest, extent, narrowed, datumOf, fieldAt}
-use Rattle.console.specs.declared.field.Kind.{Kind}
+use Rattle.console.specs.declared.field.Form.{Form}
 use Rattle.console.specs.declared.field.Datum.{Datum}
 use Rattle.console.specs.declared.field.Datum.the-variants.{Unreadable, Nothing}
 
-pub extent-rest : (kind : Kind) (s : List ℕ) → isRest kind ≡ true → length s ≡ extent kind s
+pub extent-rest : (form : Form) (s : List ℕ) → isRest form ≡ true → length s ≡ extent form s
 unfolding extent
-extent-rest kind s e = sym (ap (λ (t : Bool). cond t (length s) (indexOf 9 s)) e)
+extent-rest form s e = sym (ap (λ (t : Bool). cond t (length s) (indexOf 9 s)) e)
 
-pub extent-tab : (kind : Kind) (s : List ℕ) → isRest kind ≡ false → indexOf 9 s ≡ extent kind s
+pub extent-tab : (form : Form) (s : List ℕ) → isRest form ≡ false → indexOf 9 s ≡ extent form s
 unfolding extent
-extent-tab kind s e = sym (ap (λ (t : Bool). cond t (length s) (indexOf 9 s)) e)
+extent-tab form s e = sym (ap (λ (t : Bool). cond t (length s) (indexOf 9 s)) e)
 
 -- a number of a width, by its largest
 module _ (max : ℕ) (f : ℕ → Datum) (n : Number) (v : ℕ) (is : n ≡ Value v) where
@@ -30,17 +30,17 @@ module _ (max : ℕ) (f : ℕ → Datum) (n : Number) (v : ℕ) (is : n ≡ Valu
   too-wide h = sym (ap (λ (t : Bool). cond t (f v) Unreadable) (lt-leb v max h)) ∙ sym (ap (narrowed max f) is)
 
 -- no field is asked for; there is none; there is one
-module _ (line : List ℕ) (at : ℕ) (kind : Kind) where
-  pub field-none : isNothing kind ≡ true → record { datum = Nothing; next = at } ≡ fieldAt line at kind
+module _ (line : List ℕ) (at : ℕ) (form : Form) where
+  pub field-none : isNothing form ≡ true → record { datum = Nothing; next = at } ≡ fieldAt line at form
   unfolding fieldAt
   field-none e = rw e
 
-  pub field-missing : isNothing kind ≡ false → length line < at → record { datum = Unreadable; next = at } ≡ fieldAt line at kind
+  pub field-missing : isNothing form ≡ false → length line < at → record { datum = Unreadable; next = at } ≡ fieldAt line at form
   unfolding fieldAt
   field-missing e h = rw (e, lt-leb at (length line) h)
 
-  pub field-there : {t : List ℕ} {n : ℕ} {d : Datum} → isNothing kind ≡ false → at ≤ length line → t ≡ drop at line → n ≡ extent kind t → d ≡ datumOf kind at (take n t)
-      → record { datum = d; next = at + n + 1 } ≡ fieldAt line at kind
+  pub field-there : {t : List ℕ} {n : ℕ} {d : Datum} → isNothing form ≡ false → at ≤ length line → t ≡ drop at line → n ≡ extent form t → d ≡ datumOf form at (take n t)
+      → record { datum = d; next = at + n + 1 } ≡ fieldAt line at form
   unfolding fieldAt
   field-there {n = n} e h p q r =
       rw (e, le-leb at (length line) h, ← p, ← q) (ap (λ (x : Datum). record { datum = x; next = at + n + 1 }) r)

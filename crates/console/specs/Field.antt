@@ -1,4 +1,4 @@
--- The fields of a line (document 01, 'The session program'): parted by tabs, each read as its kind.
+-- The fields of a line (document 01, 'The session program'): parted by tabs, each read as its form.
 use Prim.Native.Nat.{ℕ, _+_, _/_}
 use mathlib.Core.Bool.{Bool, true, false, cond, _&&_}
 use mathlib.Core.List.{List}
@@ -10,14 +10,14 @@ use Rattle.text.specs.declared.number.Number.{Number}
 use Rattle.text.specs.declared.number.Number.the-variants.{Value, Invalid}
 use Rattle.console.specs.Address.{address}
 use Rattle.console.specs.Hexadecimal.{hexadecimal}
-use Rattle.console.specs.declared.field.Kind.{Kind}
-use Rattle.console.specs.declared.field.Kind.the-variants.{Nothing, U16, U32, Number as UpTo, Address, Text, Rest, Hex}
+use Rattle.console.specs.declared.field.Form.{Form}
+use Rattle.console.specs.declared.field.Form.the-variants.{Nothing, U16, U32, Number as UpTo, Address, Text, Rest, Hex}
 use Rattle.console.specs.declared.field.Datum.{Datum}
 use Rattle.console.specs.declared.field.Datum.the-variants.{Unreadable, Nothing as NoDatum, U16 as Datum16, U32 as Datum32, U64 as Datum64, Part}
 use Rattle.console.specs.declared.field.Field.{Field}
 
 -- no field at all, and the rest of the line
-abbrev pub isNothing : Kind → Bool
+abbrev pub isNothing : Form → Bool
 isNothing Nothing = true
 isNothing U16 = false
 isNothing U32 = false
@@ -27,7 +27,7 @@ isNothing Text = false
 isNothing Rest = false
 isNothing (Hex max) = false
 
-abbrev pub isRest : Kind → Bool
+abbrev pub isRest : Form → Bool
 isRest Nothing = false
 isRest U16 = false
 isRest U32 = false
@@ -38,8 +38,8 @@ isRest Rest = true
 isRest (Hex max) = false
 
 -- how far a field reaches that begins where s does: to the next tab, or to the line's end
-unfoldable pub extent : Kind → List ℕ → ℕ
-extent kind s = cond (isRest kind) (length s) (indexOf 9 s)
+unfoldable pub extent : Form → List ℕ → ℕ
+extent form s = cond (isRest form) (length s) (indexOf 9 s)
 
 -- a number that is not above `max`
 abbrev pub narrowed : ℕ → (ℕ → Datum) → Number → Datum
@@ -60,8 +60,8 @@ asU64 (Value n) = Datum64 n
 unfoldable pub hexPart : ℕ → ℕ → List ℕ → Datum
 hexPart max start s = cond (hexadecimal s && leb (length s / 2) max) (Part (record { start = start; len = length s })) Unreadable
 
--- the field s, which begins at byte `start` of the line, as its kind has it
-unfoldable pub datumOf : Kind → ℕ → List ℕ → Datum
+-- the field s, which begins at byte `start` of the line, as its form has it
+unfoldable pub datumOf : Form → ℕ → List ℕ → Datum
 datumOf Nothing start s = NoDatum
 datumOf U16 start s = asU16 (number max16 s)
 datumOf U32 start s = asU32 (number max32 s)
@@ -72,12 +72,12 @@ datumOf Rest start s = Part (record { start = start; len = length s })
 datumOf (Hex max) start s = hexPart max start s
 
 -- the field that begins at byte `at` of the line, if there is one, and where the next one begins
-unfoldable pub fieldAt : List ℕ → ℕ → Kind → Field
-fieldAt line at kind =
-    cond (isNothing kind) (record { datum = NoDatum; next = at })
+unfoldable pub fieldAt : List ℕ → ℕ → Form → Field
+fieldAt line at form =
+    cond (isNothing form) (record { datum = NoDatum; next = at })
     (cond (leb at (length line))
     (record {
-      datum = datumOf kind at (take (extent kind (drop at line)) (drop at line));
-      next = at + extent kind (drop at line) + 1;
+      datum = datumOf form at (take (extent form (drop at line)) (drop at line));
+      next = at + extent form (drop at line) + 1;
     })
     (record { datum = Unreadable; next = at }))

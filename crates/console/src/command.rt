@@ -1,14 +1,14 @@
 // A line as a command: document 01, 'The session program', and the further lines of `trace`. A word has a row in the table of
-// specs/Command.antt, which says the kinds of its fields; `kinds_of` is that table in code.
+// specs/Command.antt, which says the forms of its fields; `forms_of` is that table in code.
 use crate::field;
 use crate::field::Datum;
-use crate::field::Kind;
+use crate::field::Form;
 use text::bytes;
 use text::white::Place;
 ghost use mathlib.Core.Path.{_≡_};
 ghost use mathlib.Core.Bool.{cond};
 ghost use Rattle.text.specs.Bytes.{equal};
-ghost use Rattle.console.specs.Command.{rowOf, sessionWords, traceWords, wordIn, u16In, u32In, u64In, partIn, isReadable, readsAs, command, kindsOf, dataAt, built, readable};
+ghost use Rattle.console.specs.Command.{rowOf, sessionWords, traceWords, wordIn, u16In, u32In, u64In, partIn, isReadable, readsAs, command, formsOf, dataAt, built, readable};
 
 // The first field of a line.
 pub enum Word {
@@ -63,13 +63,13 @@ pub enum Command {
     DeletedHexAddress(u32, Place),
 }
 
-// The kinds of a line's fields behind its word, in order.
-pub struct Kinds {
-    pub first: Kind,
-    pub second: Kind,
-    pub third: Kind,
-    pub fourth: Kind,
-    pub fifth: Kind,
+// The forms of a line's fields behind its word, in order.
+pub struct Forms {
+    pub first: Form,
+    pub second: Form,
+    pub third: Form,
+    pub fourth: Form,
+    pub fifth: Form,
 }
 
 // The fields as they were read, and where a further one would begin.
@@ -122,11 +122,11 @@ fn trace_word(s: &[u8]) -> Word
     word_or(s, b"outbox", Word::Outbox, other)
 }
 
-// The kinds of up to five fields.
-fn five(first: Kind, second: Kind, third: Kind, fourth: Kind, fifth: Kind) -> Kinds
+// The forms of up to five fields.
+fn five(first: Form, second: Form, third: Form, fourth: Form, fifth: Form) -> Forms
     ensures { λ r. ⌜ r ≡ record { first = first; second = second; third = third; fourth = fourth; fifth = fifth } ⌝ }
 {
-    Kinds {
+    Forms {
         first,
         second,
         third,
@@ -136,39 +136,39 @@ fn five(first: Kind, second: Kind, third: Kind, fourth: Kind, fifth: Kind) -> Ki
 }
 
 // The table of the words.
-fn kinds_of(word: Word) -> Kinds
-    ensures { λ r. ⌜ r ≡ kindsOf word ⌝ }
+fn forms_of(word: Word) -> Forms
+    ensures { λ r. ⌜ r ≡ formsOf word ⌝ }
 {
-    let none = Kind::Nothing;
-    let time = Kind::Number(0xFFFF_FFFF_FFFF_FFFF);
+    let none = Form::Nothing;
+    let time = Form::Number(0xFFFF_FFFF_FFFF_FFFF);
     match word {
         Word::Unknown => five(none, none, none, none, none),
-        Word::New => five(Kind::U32, time, none, none, none),
-        Word::Link => five(Kind::U32, Kind::U32, Kind::U32, none, none),
-        Word::Addr => five(Kind::U32, Kind::Address, none, none, none),
-        Word::Advertise => five(Kind::Text, Kind::Text, Kind::Text, none, none),
-        Word::Data => five(time, Kind::Address, Kind::U16, Kind::Address, Kind::Rest),
+        Word::New => five(Form::U32, time, none, none, none),
+        Word::Link => five(Form::U32, Form::U32, Form::U32, none, none),
+        Word::Addr => five(Form::U32, Form::Address, none, none, none),
+        Word::Advertise => five(Form::Text, Form::Text, Form::Text, none, none),
+        Word::Data => five(time, Form::Address, Form::U16, Form::Address, Form::Rest),
         Word::Timeout => five(time, none, none, none, none),
-        Word::Dellink => five(Kind::U32, Kind::U32, none, none, none),
-        Word::Deladdr => five(Kind::U32, Kind::Address, none, none, none),
-        Word::Subscribe => five(Kind::Text, none, none, none, none),
-        Word::Deadvertise => five(Kind::Text, none, none, none, none),
+        Word::Dellink => five(Form::U32, Form::U32, none, none, none),
+        Word::Deladdr => five(Form::U32, Form::Address, none, none, none),
+        Word::Subscribe => five(Form::Text, none, none, none, none),
+        Word::Deadvertise => five(Form::Text, none, none, none, none),
         Word::Refresh => five(none, none, none, none, none),
         Word::Reset => five(time, none, none, none, none),
-        Word::Outbox => five(Kind::Number(65536), none, none, none, none),
+        Word::Outbox => five(Form::Number(65536), none, none, none, none),
         Word::Hexdata => five(
             time,
-            Kind::Address,
-            Kind::U16,
-            Kind::Address,
-            Kind::Hex(2000),
+            Form::Address,
+            Form::U16,
+            Form::Address,
+            Form::Hex(2000),
         ),
-        Word::Hexaddr => five(Kind::U32, Kind::Hex(32), none, none, none),
-        Word::Hexdeladdr => five(Kind::U32, Kind::Hex(32), none, none, none),
+        Word::Hexaddr => five(Form::U32, Form::Hex(32), none, none, none),
+        Word::Hexdeladdr => five(Form::U32, Form::Hex(32), none, none, none),
     }
 }
 
-// What a field was read as, or 0 or an empty part where it was read as another kind.
+// What a field was read as, or 0 or an empty part where it was read as another form.
 fn u16_in(d: Datum) -> u16
     ensures { λ r. ⌜ r ≡ u16In d ⌝ }
 {
@@ -241,19 +241,19 @@ fn is_readable(d: Datum) -> bool
 }
 
 // Five fields, one behind the other, from byte `at` of the line on.
-fn data_at(line: &[u8], at: usize, kinds: Kinds) -> Data
-    ensures { λ r. ⌜ r ≡ dataAt (now (line .entry)) at kinds ⌝ }
+fn data_at(line: &[u8], at: usize, forms: Forms) -> Data
+    ensures { λ r. ⌜ r ≡ dataAt (now (line .entry)) at forms ⌝ }
 {
-    let kind = kinds.first;
-    let first = field::field_at(line, at, kind);
-    let kind = kinds.second;
-    let second = field::field_at(line, first.next, kind);
-    let kind = kinds.third;
-    let third = field::field_at(line, second.next, kind);
-    let kind = kinds.fourth;
-    let fourth = field::field_at(line, third.next, kind);
-    let kind = kinds.fifth;
-    let fifth = field::field_at(line, fourth.next, kind);
+    let form = forms.first;
+    let first = field::field_at(line, at, form);
+    let form = forms.second;
+    let second = field::field_at(line, first.next, form);
+    let form = forms.third;
+    let third = field::field_at(line, second.next, form);
+    let form = forms.fourth;
+    let fourth = field::field_at(line, third.next, form);
+    let form = forms.fifth;
+    let fifth = field::field_at(line, fourth.next, form);
     let first_datum = first.datum;
     let second_datum = second.datum;
     let third_datum = third.datum;
@@ -327,7 +327,7 @@ fn built_of(word: Word, fields: Data) -> Command
 fn command_of(line: &[u8], word: Word, at: usize) -> Command
     ensures { λ r. ⌜ r ≡ readsAs (now (line .entry)) (rowOf word) at ⌝ }
 {
-    let fields = data_at(line, at, kinds_of(word));
+    let fields = data_at(line, at, forms_of(word));
     if is_whole(fields) & (line.len() < fields.next) {
         return built_of(word, fields);
     }

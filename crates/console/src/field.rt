@@ -1,4 +1,4 @@
-// The fields of a line, parted by tabs, each read as its kind: document 01, 'The session program'.
+// The fields of a line, parted by tabs, each read as its form: document 01, 'The session program'.
 use crate::address;
 use crate::hexadecimal;
 use text::bytes;
@@ -12,7 +12,7 @@ ghost use Rattle.console.specs.Field.{isNothing, isRest, extent, asU16, 
 
 // What a field holds: no field at all; a number of 16 or 32 bits, or one not above a largest; a dotted address; any text without a tab;
 // the rest of the line; hexadecimal of at most so many bytes.
-pub enum Kind {
+pub enum Form {
     Nothing,
     U16,
     U32,
@@ -39,42 +39,42 @@ pub struct Field {
     pub next: usize,
 }
 
-fn is_nothing(kind: Kind) -> bool
-    ensures { λ r. ⌜ r ≡ isNothing kind ⌝ }
+fn is_nothing(form: Form) -> bool
+    ensures { λ r. ⌜ r ≡ isNothing form ⌝ }
 {
-    match kind {
-        Kind::Nothing => true,
-        Kind::U16 => false,
-        Kind::U32 => false,
-        Kind::Number(_) => false,
-        Kind::Address => false,
-        Kind::Text => false,
-        Kind::Rest => false,
-        Kind::Hex(_) => false,
+    match form {
+        Form::Nothing => true,
+        Form::U16 => false,
+        Form::U32 => false,
+        Form::Number(_) => false,
+        Form::Address => false,
+        Form::Text => false,
+        Form::Rest => false,
+        Form::Hex(_) => false,
     }
 }
 
-fn is_rest(kind: Kind) -> bool
-    ensures { λ r. ⌜ r ≡ isRest kind ⌝ }
+fn is_rest(form: Form) -> bool
+    ensures { λ r. ⌜ r ≡ isRest form ⌝ }
 {
-    match kind {
-        Kind::Nothing => false,
-        Kind::U16 => false,
-        Kind::U32 => false,
-        Kind::Number(_) => false,
-        Kind::Address => false,
-        Kind::Text => false,
-        Kind::Rest => true,
-        Kind::Hex(_) => false,
+    match form {
+        Form::Nothing => false,
+        Form::U16 => false,
+        Form::U32 => false,
+        Form::Number(_) => false,
+        Form::Address => false,
+        Form::Text => false,
+        Form::Rest => true,
+        Form::Hex(_) => false,
     }
 }
 
 // How far a field reaches that begins where `rest` does: to the next tab, or to the line's end.
-fn extent_of(kind: Kind, rest: &[u8]) -> usize
-    ensures { λ r. ⌜ r ≡ extent kind (now (rest .entry)) ⌝ }
+fn extent_of(form: Form, rest: &[u8]) -> usize
+    ensures { λ r. ⌜ r ≡ extent form (now (rest .entry)) ⌝ }
     ensures { λ r. ⌜ r ≤ length (now (rest .entry)) ⌝ }
 {
-    if is_rest(kind) {
+    if is_rest(form) {
         return rest.len();
     }
     bytes::find(rest, b'\t')
@@ -129,33 +129,33 @@ fn hex_part(max: usize, start: usize, text: &[u8]) -> Datum
     Datum::Unreadable
 }
 
-// A field that begins at byte `start` of the line, read as its kind.
-fn datum_of(kind: Kind, start: usize, text: &[u8]) -> Datum
-    ensures { λ r. ⌜ r ≡ datumOf kind start (now (text .entry)) ⌝ }
+// A field that begins at byte `start` of the line, read as its form.
+fn datum_of(form: Form, start: usize, text: &[u8]) -> Datum
+    ensures { λ r. ⌜ r ≡ datumOf form start (now (text .entry)) ⌝ }
 {
-    match kind {
-        Kind::Nothing => Datum::Nothing,
-        Kind::U16 => u16_datum(number::u16_of(text)),
-        Kind::U32 => u32_datum(number::u32_of(text)),
-        Kind::Number(max) => u64_datum(number::up_to(text, max)),
-        Kind::Address => u32_datum(address::address_of(text)),
-        Kind::Text => Datum::Part(Place {
+    match form {
+        Form::Nothing => Datum::Nothing,
+        Form::U16 => u16_datum(number::u16_of(text)),
+        Form::U32 => u32_datum(number::u32_of(text)),
+        Form::Number(max) => u64_datum(number::up_to(text, max)),
+        Form::Address => u32_datum(address::address_of(text)),
+        Form::Text => Datum::Part(Place {
             start,
             len: text.len(),
         }),
-        Kind::Rest => Datum::Part(Place {
+        Form::Rest => Datum::Part(Place {
             start,
             len: text.len(),
         }),
-        Kind::Hex(max) => hex_part(max, start, text),
+        Form::Hex(max) => hex_part(max, start, text),
     }
 }
 
 // The field that begins at byte `at` of the line.
-pub fn field_at(line: &[u8], at: usize, kind: Kind) -> Field
-    ensures { λ r. ⌜ r ≡ fieldAt (now (line .entry)) at kind ⌝ }
+pub fn field_at(line: &[u8], at: usize, form: Form) -> Field
+    ensures { λ r. ⌜ r ≡ fieldAt (now (line .entry)) at form ⌝ }
 {
-    if is_nothing(kind) {
+    if is_nothing(form) {
         return Field {
             datum: Datum::Nothing,
             next: at,
@@ -168,8 +168,8 @@ pub fn field_at(line: &[u8], at: usize, kind: Kind) -> Field
         };
     }
     let rest = &line[at..];
-    let len = extent_of(kind, rest);
-    let datum = datum_of(kind, at, &rest[..len]);
+    let len = extent_of(form, rest);
+    let datum = datum_of(form, at, &rest[..len]);
     Field {
         datum,
         next: at + len + 1,

@@ -80,8 +80,8 @@ first-unheard (line.NewLink index flags outcome) neither s room u = record { out
 first-unheard (line.DeletedLink index outcome) neither s room u = record { outcome = u }
 first-unheard (line.NewAddress index address) neither s room u = record { outcome = u }
 first-unheard (line.DeletedAddress index address) neither s room u = record { outcome = u }
-first-unheard (line.Subscribe kind) neither s room u = record { outcome = u }
-first-unheard (line.Advertise name kind location) neither s room u = record { outcome = u }
+first-unheard (line.Subscribe service) neither s room u = record { outcome = u }
+first-unheard (line.Advertise name service location) neither s room u = record { outcome = u }
 first-unheard (line.Deadvertise name) neither s room u = record { outcome = u }
 first-unheard line.Refresh neither s room u = record { outcome = u }
 first-unheard (line.Datagram time sender port receiver text) neither s room u = record { outcome = u }

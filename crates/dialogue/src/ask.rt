@@ -194,11 +194,11 @@ pub(crate) fn advertise(
     texts: &mut Texts,
     line: &[u8],
     name: Place,
-    kind: Place,
+    service: Place,
     location: Place,
     outbox: &mut [u8],
 ) -> Answer
-    ensures { λ r. ⌜ ((searches : List ℕ) → Answers (engine (now (head .entry)) (now (links .entry)) searches (now (numbers .entry)) (now (texts .entry))) (Advertise (partOf (now (line .entry)) name) (partOf (now (line .entry)) kind) (partOf (now (line .entry)) location) (length (now (outbox .entry)))) (now (outbox .entry)) (now (outbox .exit)) (answered (engine (now (head .exit)) (now (links .entry)) searches (now (numbers .exit)) (now (texts .exit))) r)) ⌝ }
+    ensures { λ r. ⌜ ((searches : List ℕ) → Answers (engine (now (head .entry)) (now (links .entry)) searches (now (numbers .entry)) (now (texts .entry))) (Advertise (partOf (now (line .entry)) name) (partOf (now (line .entry)) service) (partOf (now (line .entry)) location) (length (now (outbox .entry)))) (now (outbox .entry)) (now (outbox .exit)) (answered (engine (now (head .exit)) (now (links .entry)) searches (now (numbers .exit)) (now (texts .exit))) r)) ⌝ }
 {
     calls::advertise(
         head,
@@ -206,7 +206,7 @@ pub(crate) fn advertise(
         numbers,
         texts,
         part_of(line, name),
-        part_of(line, kind),
+        part_of(line, service),
         part_of(line, location),
         outbox,
     )

@@ -145,11 +145,18 @@ fn obey_next(
             ask::deleted_address(head, links, numbers, index, address),
             true,
         ),
-        Command::Subscribe(kind) => heard(
-            calls::subscribe(head, links, searches, numbers, part_of(line, kind), outbox),
+        Command::Subscribe(service) => heard(
+            calls::subscribe(
+                head,
+                links,
+                searches,
+                numbers,
+                part_of(line, service),
+                outbox,
+            ),
             true,
         ),
-        Command::Advertise(name, kind, location) => heard(
+        Command::Advertise(name, service, location) => heard(
             ask::advertise(
                 head,
                 links,
@@ -157,7 +164,7 @@ fn obey_next(
                 texts,
                 line,
                 name,
-                kind,
+                service,
                 location,
                 outbox,
             ),

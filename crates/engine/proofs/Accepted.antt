@@ -19,7 +19,7 @@ use Rattle.engine.specs.Table.{known}
 use Rattle.engine.specs.Held.{Text, Context, Held, Advertisement, advertised}
 use Rattle.engine.specs.Calls.{Call, NewLink, DeletedLink, NewAddress, DeletedAddress, Subscribe, Advertise, Deadvertise, Refresh, Datagram, Timeout, ResetTimer, Act, Enters, Leaves, Asks, Ticks, asks, acts}
 use Rattle.engine.specs.Refusals.{Check, firstOf, Names, over, bad, searchChecks, checks, refusal}
-use Rattle.engine.specs.Engine.{namesOf, turned}
+use Rattle.engine.specs.Engine.{namesOf, refusalOf}
 use Rattle.engine.specs.declared.advertisement.Endpoint.{Endpoint}
 use Rattle.engine.proofs.Members.{Each, nobody, both}
 
@@ -54,8 +54,8 @@ numbered x n (NewLink index flags outcome room) = (λ b. omega arith, (λ b. ome
 numbered x n (DeletedLink index outcome) = (λ b. omega arith, tt)
 numbered x n (NewAddress index address room) = (λ b. omega arith, (λ b. omega arith, (λ b. omega arith, (λ b. omega arith, tt))))
 numbered x n (DeletedAddress index address) = (λ b. omega arith, (λ b. omega arith, tt))
-numbered x n (Subscribe kind room) = (λ b. omega arith, (λ b. omega arith, (λ b. omega arith, (λ b. omega arith, tt))))
-numbered x n (Advertise name kind location room) = (λ b. omega arith, (λ b. omega arith, (λ b. omega arith, (λ b. omega arith, tt))))
+numbered x n (Subscribe service room) = (λ b. omega arith, (λ b. omega arith, (λ b. omega arith, (λ b. omega arith, tt))))
+numbered x n (Advertise name service location room) = (λ b. omega arith, (λ b. omega arith, (λ b. omega arith, (λ b. omega arith, tt))))
 numbered x n (Deadvertise name room) = (λ b. omega arith, tt)
 numbered x n (Refresh room) = (λ b. omega arith, tt)
 numbered x n (Datagram now sender receiver s) =
@@ -108,8 +108,8 @@ single (NewLink index flags outcome room) = tt
 single (DeletedLink index outcome) = tt
 single (NewAddress index address room) = tt
 single (DeletedAddress index address) = tt
-single (Subscribe kind room) = tt
-single (Advertise name kind location room) = tt
+single (Subscribe service room) = tt
+single (Advertise name service location room) = tt
 single (Deadvertise name room) = tt
 single (Refresh room) = tt
 single (Datagram now sender receiver s) = single-asks now sender receiver s (parsed s .message)
@@ -118,8 +118,8 @@ single (ResetTimer now) = tt
 
 -- ---- what a call brings to the names
 abbrev pub Brings : List Advertisement → Act → Type 0
-Brings as′ (Enters name kind location) =
-    Fits nameMax name × Fits typeMax kind × Fits locationMax location × ((not (known advertised name as′) && leb advertisementsMax (length as′)) ≡ false)
+Brings as′ (Enters name service location) =
+    Fits nameMax name × Fits typeMax service × Fits locationMax location × ((not (known advertised name as′) && leb advertisementsMax (length as′)) ≡ false)
 Brings as′ (Leaves name) = Unit {0}
 Brings as′ (Asks q) = length (q .target) ≤ typeMax
 Brings as′ (Ticks now) = Unit {0}
@@ -138,16 +138,16 @@ brings-at h (NewLink index flags outcome room) p = nobody
 brings-at h (DeletedLink index outcome) p = nobody
 brings-at h (NewAddress index address room) p = nobody
 brings-at h (DeletedAddress index address) p = nobody
-brings-at h (Subscribe kind room) p = nobody
-brings-at h (Advertise name kind location room) p =
-    let t = three-fit nameMax typeMax locationMax name kind location (p .1 .0) (p .1 .1 .0) in
-    both {a = Enters name kind location} (t .0, t .1, t .2, p .1 .1 .1 .0) nobody
+brings-at h (Subscribe service room) p = nobody
+brings-at h (Advertise name service location room) p =
+    let t = three-fit nameMax typeMax locationMax name service location (p .1 .0) (p .1 .1 .0) in
+    both {a = Enters name service location} (t .0, t .1, t .2, p .1 .1 .1 .0) nobody
 brings-at h (Deadvertise name room) p = both {a = Leaves name} tt nobody
 brings-at h (Refresh room) p = nobody
 brings-at h (Datagram now sender receiver s) p = asks-bring (h .advertisements) now sender receiver s (parsed s .message) (p .1 .1)
 brings-at h (Timeout now room) p = both {a = Ticks now} tt nobody
 brings-at h (ResetTimer now) p = nobody
 
-pub brings : (h : Held) (c : Call) → turned h c ≡ 0 → Each (Brings (h .advertisements)) (acts c)
-unfolding turned
+pub brings : (h : Held) (c : Call) → refusalOf h c ≡ 0 → Each (Brings (h .advertisements)) (acts c)
+unfolding refusalOf
 brings h c e = brings-at h c (passed (h .context) (namesOf h c) c e)

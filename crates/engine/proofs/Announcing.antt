@@ -10,15 +10,15 @@ use Rattle.engine.specs.Announcements.{announcedOn}
 use Rattle.engine.specs.declared.advertisement.Endpoint.{Endpoint}
 use Rattle.engine.specs.declared.announce.Announcement.{Announcement}
 
-pub same-texts : (up : List ℕ) (what : Announcement) {kind kind′ name name′ location location′ : List ℕ} → kind ≡ kind′ → name ≡ name′ → location ≡ location′
-    → announcedOn up what kind name location ≡ announcedOn up what kind′ name′ location′
-same-texts up what {kind} {kind′} {name} {name′} {location} {location′} p q r =
+pub same-texts : (up : List ℕ) (what : Announcement) {service service′ name name′ location location′ : List ℕ} → service ≡ service′ → name ≡ name′ → location ≡ location′
+    → announcedOn up what service name location ≡ announcedOn up what service′ name′ location′
+same-texts up what {service} {service′} {name} {name′} {location} {location′} p q r =
     ap (λ (t : List ℕ). announcedOn up what t name location) p
-    ∙ ap (λ (t : List ℕ). announcedOn up what kind′ t location) q
-    ∙ ap (λ (t : List ℕ). announcedOn up what kind′ name′ t) r
+    ∙ ap (λ (t : List ℕ). announcedOn up what service′ t location) q
+    ∙ ap (λ (t : List ℕ). announcedOn up what service′ name′ t) r
 
-pub response-texts : (source : ℕ) (to : Endpoint) {kind kind′ name name′ location location′ : List ℕ} → kind ≡ kind′ → name ≡ name′ → location ≡ location′
-    → _≡_ {A = List Record} (ResponseFrom source to kind name location ∷ []) (ResponseFrom source to kind′ name′ location′ ∷ [])
+pub response-texts : (source : ℕ) (to : Endpoint) {service service′ name name′ location location′ : List ℕ} → service ≡ service′ → name ≡ name′ → location ≡ location′
+    → _≡_ {A = List Record} (ResponseFrom source to service name location ∷ []) (ResponseFrom source to service′ name′ location′ ∷ [])
 response-texts source to p q r = cc
 
 -- one search for all where any subscription is for all, else one for each

@@ -13,7 +13,7 @@ use Rattle.engine.specs.Calls.{Call, Counts, zeros, plus}
 use Rattle.engine.specs.Refusals.{newRefusal}
 use Rattle.engine.specs.Records.{Record, flat}
 use Rattle.engine.specs.Layout.{layout, written, Sent}
-use Rattle.engine.specs.Engine.{turned, Step, step, accepted, refusedBy, unless, newStep}
+use Rattle.engine.specs.Engine.{refusalOf, Step, step, accepted, refusedBy, unless, newStep}
 
 -- no record leaves the outbox as it is
 pub written-none : (outbox : List ℕ) → written [] outbox ≡ outbox
@@ -24,11 +24,11 @@ unless-refused : (k : ℕ) (h : Held) (s : Step) → (k ≡ 0 → ⊥) → unles
 unless-refused zero h s n = absurd (n refl)
 unless-refused (suc k) h s n = refl
 
-pub step-refused : (h : Held) (c : Call) (k : ℕ) → turned h c ≡ k → (k ≡ 0 → ⊥) → step h c ≡ refusedBy k h
+pub step-refused : (h : Held) (c : Call) (k : ℕ) → refusalOf h c ≡ k → (k ≡ 0 → ⊥) → step h c ≡ refusedBy k h
 unfolding step
 step-refused h c k e n = rw e (unless-refused k h (accepted h c) n)
 
-pub step-accepted : (h : Held) (c : Call) → turned h c ≡ 0 → step h c ≡ accepted h c
+pub step-accepted : (h : Held) (c : Call) → refusalOf h c ≡ 0 → step h c ≡ accepted h c
 unfolding step
 step-accepted h c e = rw e
 
@@ -49,7 +49,7 @@ pub new-refused : (k seed time : ℕ) → (k ≡ 0 → ⊥) → newStep k seed t
 new-refused zero seed time n = absurd (n refl)
 new-refused (suc k) seed time n = refl
 
--- ---- an accepted call, part by part: the engine after it, what it counts, whom it tells and what it sends
+-- ---- an accepted call, part by part: the engine after it, what it counts, whom it notifies and what it sends
 
 -- nothing sent by a call that takes no outbox
 pub sent-none : Sent [] [] [] 0

@@ -1,4 +1,4 @@
--- What follows from parse's answer to a datagram: its refusal, what it does to the names, and whom it tells.
+-- What follows from parse's answer to a datagram: its refusal, what it does to the names, and whom it notifies.
 use mathlib.Core.Path.{_≡_, refl}
 use mathlib.Core.Bool.{true, cond, not, false≢true}
 use mathlib.Core.List.{List, [], _∷_}
@@ -22,7 +22,7 @@ use Rattle.engine.specs.declared.advertisement.Endpoint.{Endpoint}
 use Rattle.engine.specs.Held.{Text, Context}
 use Rattle.engine.specs.Calls.{Datagram, asks}
 use Rattle.engine.specs.Refusals.{Names, checks, refusal, searchChecks}
-use Rattle.engine.specs.Engine.{tellsOf, tellsAbout}
+use Rattle.engine.specs.Engine.{notifiesOf, notifiesAbout}
 
 -- the numbers of the answers of `parse` that hold no message, and of the messages that are no search
 abbrev pub refusals : List ℕ
@@ -47,18 +47,18 @@ is-notice (Response st usn l) k = refl
 pub no-search : {p : Parsed} {m : Message} → p ≡ Says m → OneOf notices (tagOf message-type m) → isNotice m ≡ true
 no-search {p} {m} e k = is-notice m k
 
--- a notice is accepted, asks nothing, and tells of its type
-pub record Noticed (s : List ℕ) (kind : Place) (a : ParseAnswer) : Type 0 where
+-- a notice is accepted, asks nothing, and notifies of its type
+pub record Noticed (s : List ℕ) (service : Place) (a : ParseAnswer) : Type 0 where
   pub accepted : a .refusal ≡ 0
   pub checked : searchChecks s (a .message) ≡ []
   pub asking : (time : ℕ) (sender : Endpoint) (receiver : ℕ) → asks time sender receiver s (a .message) ≡ []
-  pub telling : (subscriptions : List Text) → tellsOf subscriptions s (a .message) ≡ tellsAbout subscriptions (fieldAt s kind)
+  pub notifying : (subscriptions : List Text) → notifiesOf subscriptions s (a .message) ≡ notifiesAbout subscriptions (fieldAt s service)
 
 pub notice-read : (s : List ℕ) (m : Message) → isNotice m ≡ true → Noticed s (typeOf m) (reads m)
-notice-read s (NotifyAlive nt usn l) e = record { accepted = refl; checked = refl; asking = λ t o r. refl; telling = λ ss. refl }
-notice-read s (NotifyByeBye nt usn) e = record { accepted = refl; checked = refl; asking = λ t o r. refl; telling = λ ss. refl }
+notice-read s (NotifyAlive nt usn l) e = record { accepted = refl; checked = refl; asking = λ t o r. refl; notifying = λ ss. refl }
+notice-read s (NotifyByeBye nt usn) e = record { accepted = refl; checked = refl; asking = λ t o r. refl; notifying = λ ss. refl }
 notice-read s (Search st mx) e = absurd (false≢true e)
-notice-read s (Response st usn l) e = record { accepted = refl; checked = refl; asking = λ t o r. refl; telling = λ ss. refl }
+notice-read s (Response st usn l) e = record { accepted = refl; checked = refl; asking = λ t o r. refl; notifying = λ ss. refl }
 
 -- the refusal of a datagram: by its time, by what cannot be read, and none for a notice
 module _ (x : Context) (n : Names) (time : ℕ) (sender : Endpoint) (receiver : ℕ) (s : List ℕ) where
@@ -73,6 +73,6 @@ module _ (x : Context) (n : Names) (time : ℕ) (sender : Endpoint) (receiver : 
   unfolding refusal checks
   unread-refusal h k = rw (le-ltb timeMax time h) (by-number (parsed s .refusal) _ k)
 
-  pub notice-refusal : (kind : Place) → time ≤ timeMax → Noticed s kind (parsed s) → refusal x n (Datagram time sender receiver s) ≡ 0
+  pub notice-refusal : (service : Place) → time ≤ timeMax → Noticed s service (parsed s) → refusal x n (Datagram time sender receiver s) ≡ 0
   unfolding refusal checks
-  notice-refusal kind h m = rw (le-ltb timeMax time h, m .accepted, m .checked)
+  notice-refusal service h m = rw (le-ltb timeMax time h, m .accepted, m .checked)

@@ -24,7 +24,7 @@ use Rattle.engine.specs.Refusals.{newRefusal}
 use Rattle.engine.specs.Records.{records, byebyeOn, flat}
 use Rattle.engine.specs.Layout.{written, Sent}
 use Rattle.engine.specs.Links.{contextAfter}
-use Rattle.engine.specs.Engine.{turned, poll, Told, tells, tellsNobody, Step, answerWith, accepted, refusedBy, newStep}
+use Rattle.engine.specs.Engine.{refusalOf, poll, Notified, notifies, notifiesNobody, Step, answerWith, accepted, refusedBy, newStep}
 use Rattle.engine.specs.Arrays.{Engine, engine, held, headPlaces, salvoPlace, phasePlace, namesPlace, linksPlace, searchesPlace, low32, seedIn, timerIn, linkWidth, linkIn, linkCount, linksIn, searchWidth, searchIn, searchRows, searchCount, searchesIn, entryIn, entryAt, replyAt, entries, nameCount, namesIn}
 use Rattle.engine.specs.Changes.{blank, LinksAfter, NamesAfter}
 use Rattle.engine.specs.Promises.{answered, Answers, Begins}
@@ -36,7 +36,7 @@ use Rattle.engine.proofs.Answering.{written-none, step-refused, step-ac
 use Rattle.engine.proofs.Heads as heads
 
 -- an answer, with the waiting and poll of what the arrays hold
-pub answer-of : (number records : ℕ) (c : Counts) (w : Told) (t : Engine) (waits soon : ℕ) → waits ≡ waiting (namesIn (t .head) (t .numbers) (t .texts)) →
+pub answer-of : (number records : ℕ) (c : Counts) (w : Notified) (t : Engine) (waits soon : ℕ) → waits ≡ waiting (namesIn (t .head) (t .numbers) (t .texts)) →
     soon ≡ soonest (timerIn (t .head) .«next_salvo») (namesIn (t .head) (t .numbers) (t .texts)) →
     _≡_ {A = Answer} (record {
       refusal = number;
@@ -56,7 +56,7 @@ unfolding held poll
 answer-of number records c w t waits soon hw hs = rw (hw, hs)
 
 -- ---- a call that refused with k: the very arrays, document 01's refused answer, the outbox as it was
-pub refused-answers : (t : Engine) (c : Call) (outbox : List ℕ) (r : Answer) (k : ℕ) → turned (held t) c ≡ k → (k ≡ 0 → ⊥) →
+pub refused-answers : (t : Engine) (c : Call) (outbox : List ℕ) (r : Answer) (k : ℕ) → refusalOf (held t) c ≡ k → (k ≡ 0 → ⊥) →
     r ≡ refusedBy k (held t) .answer → Answers t c outbox outbox (answered t r)
 refused-answers t c outbox r k e n answer =
     let s = step-refused (held t) c k e n in
@@ -67,12 +67,12 @@ refused-answers t c outbox r k e n answer =
       untouched = λ _. refl;
     }
 
--- ---- an accepted call, part by part: what the arrays hold after it, what it counts, whom it tells and what it sends
+-- ---- an accepted call, part by part: what the arrays hold after it, what it counts, whom it notifies and what it sends
 abbrev pub Done : Held → Call → Held
 Done h c = record { context = contextAfter (h .context) c; advertisements = results (h .context .seed) (h .advertisements) (acts c) .advertisements }
 
-pub done-answers : (t t′ : Engine) (c : Call) {outbox outbox′ : List ℕ} {r : Answer} (k : ℕ) (n : Counts) (w : Told) → turned (held t) c ≡ 0 →
-    held t′ ≡ Done (held t) c → n ≡ results (held t .context .seed) (held t .advertisements) (acts c) .counts → w ≡ tells (held t .context) c →
+pub done-answers : (t t′ : Engine) (c : Call) {outbox outbox′ : List ℕ} {r : Answer} (k : ℕ) (n : Counts) (w : Notified) → refusalOf (held t) c ≡ 0 →
+    held t′ ≡ Done (held t) c → n ≡ results (held t .context .seed) (held t .advertisements) (acts c) .counts → w ≡ notifies (held t .context) c →
     Sent (records (held t .context) (held t .advertisements) c) outbox outbox′ k → r ≡ answerWith 0 k n (held t′) w →
     Answers t c outbox outbox′ (answered t′ r)
 unfolding accepted
@@ -95,7 +95,7 @@ refused-begins seed time t r k e n f answer =
       engine = f ∙ ap (λ (x : Step). x .after) (sym s);
     }
 
-pub accepted-begins : (seed time : ℕ) (t : Engine) (r : Answer) (n : Counts) (w : Told) → newRefusal time ≡ 0 → held t ≡ fresh seed time → n ≡ zeros → w ≡ tellsNobody →
+pub accepted-begins : (seed time : ℕ) (t : Engine) (r : Answer) (n : Counts) (w : Notified) → newRefusal time ≡ 0 → held t ≡ fresh seed time → n ≡ zeros → w ≡ notifiesNobody →
     r ≡ answerWith 0 0 n (held t) w → Begins seed time (answered t r)
 accepted-begins seed time t r n w e f counts told answer =
     let s : newStep (newRefusal time) seed time ≡ newStep 0 seed time = ap (λ (x : ℕ). newStep x seed time) e in
@@ -132,18 +132,18 @@ module _ (head links searches numbers texts : List ℕ) (size : length head ≡ 
   unfolding searchesIn
   searches-all n e = ap (λ (k : ℕ). searchRows k searches) e
 
-  pub searches-pushed : {head′ : List ℕ} (searches′ : List ℕ) (n : ℕ) (kind : Text) → head′ ≡ set head searchesPlace (n + 1) → n ≡ searchCount head → n < subscriptionsMax →
-      searchRows (suc n) searches′ ≡ searchRows n searches ++ (kind ∷ []) →
+  pub searches-pushed : {head′ : List ℕ} (searches′ : List ℕ) (n : ℕ) (service : Text) → head′ ≡ set head searchesPlace (n + 1) → n ≡ searchCount head → n < subscriptionsMax →
+      searchRows (suc n) searches′ ≡ searchRows n searches ++ (service ∷ []) →
       held (engine head′ links searches′ numbers texts)
-      ≡ holding (seedIn head) (timerIn head) (linksIn head links) (searchesIn head searches ++ (kind ∷ [])) (namesIn head numbers texts)
+      ≡ holding (seedIn head) (timerIn head) (linksIn head links) (searchesIn head searches ++ (service ∷ [])) (namesIn head numbers texts)
   unfolding held
-  searches-pushed searches′ n kind e count few a =
+  searches-pushed searches′ n service e count few a =
       let m = n + 1 in
       ap (λ (h : List ℕ). held (engine h links searches′ numbers texts)) e
       ∙ (λ i. holding (heads.seed-kept head searchesPlace m (omega arith) i) (heads.timer-kept head searchesPlace m (omega arith) i)
       (heads.links-kept head searchesPlace m links (λ z. omega arith) i)
       ((heads.searches-counted head m size searches′ (omega arith) ∙ ap (λ (k : ℕ). searchRows k searches′) (add-one n) ∙ a
-      ∙ ap (λ (l : List Text). l ++ (kind ∷ [])) (searches-all n count)) i)
+      ∙ ap (λ (l : List Text). l ++ (service ∷ [])) (searches-all n count)) i)
       (heads.names-kept head searchesPlace m numbers texts (λ z. omega arith) i))
 
   pub names-changed : {head′ numbers′ texts′ : List ℕ} (n : ℕ) (l : List Advertisement) → head′ ≡ set head namesPlace n → NamesAfter n numbers′ texts′ l →
@@ -234,23 +234,23 @@ module _ (head numbers texts : List ℕ) (name : Text) (spot : Spot) (s : Spotte
 
   -- the names after it was put over the one that is held, was put in, or was taken out
   module _ (n : ℕ) (count : n ≡ nameCount head) (numbers′ texts′ : List ℕ) where
-    pub entered-over : (kind location : Text) → spot .known ≡ true →
-        entries n numbers′ texts′ ≡ set (entries n numbers texts) (spot .at) (newcomer name kind location) →
-        NamesAfter n numbers′ texts′ (enter advertised (newcomer name kind location) (namesIn head numbers texts))
+    pub entered-over : (service location : Text) → spot .known ≡ true →
+        entries n numbers′ texts′ ≡ set (entries n numbers texts) (spot .at) (newcomer name service location) →
+        NamesAfter n numbers′ texts′ (enter advertised (newcomer name service location) (namesIn head numbers texts))
     unfolding namesIn
-    entered-over kind location k r = record {
+    entered-over service location k r = record {
       few = omega arith;
-      rows = r ∙ (λ i. set (entries (count i) numbers texts) (s .at i) (newcomer name kind location)) ∙ sym (enter-known advertised (newcomer name kind location) (namesIn head numbers texts) (sym (s .known) ∙ k));
+      rows = r ∙ (λ i. set (entries (count i) numbers texts) (s .at i) (newcomer name service location)) ∙ sym (enter-known advertised (newcomer name service location) (namesIn head numbers texts) (sym (s .known) ∙ k));
     }
 
-    pub entered-in : (kind location : Text) → spot .known ≡ false → n < advertisementsMax →
-        entries (suc n) numbers′ texts′ ≡ insertAt (spot .at) (newcomer name kind location) (entries n numbers texts) →
-        NamesAfter (n + 1) numbers′ texts′ (enter advertised (newcomer name kind location) (namesIn head numbers texts))
+    pub entered-in : (service location : Text) → spot .known ≡ false → n < advertisementsMax →
+        entries (suc n) numbers′ texts′ ≡ insertAt (spot .at) (newcomer name service location) (entries n numbers texts) →
+        NamesAfter (n + 1) numbers′ texts′ (enter advertised (newcomer name service location) (namesIn head numbers texts))
     unfolding namesIn
-    entered-in kind location k h r = record {
+    entered-in service location k h r = record {
       few = omega arith;
-      rows = ap (λ (m : ℕ). entries m numbers′ texts′) (add-one n) ∙ r ∙ (λ i. insertAt (s .at i) (newcomer name kind location) (entries (count i) numbers texts))
-          ∙ sym (enter-unknown advertised (newcomer name kind location) (namesIn head numbers texts) (sym (s .known) ∙ k));
+      rows = ap (λ (m : ℕ). entries m numbers′ texts′) (add-one n) ∙ r ∙ (λ i. insertAt (s .at i) (newcomer name service location) (entries (count i) numbers texts))
+          ∙ sym (enter-unknown advertised (newcomer name service location) (namesIn head numbers texts) (sym (s .known) ∙ k));
     }
 
     pub left-out : spot .known ≡ true → entries (n - 1) numbers′ texts′ ≡ removeAt (spot .at) (entries n numbers texts) →

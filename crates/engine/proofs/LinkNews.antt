@@ -12,8 +12,8 @@ use Rattle.engine.specs.Held.{Link, linkOf, byIndex}
 use Rattle.engine.specs.Links.{linkAt, anyUp, addressesOf, contains, lastInto, isV4, addressOf, stores, linkWith, linkNews, addressNews, addressGone}
 use Rattle.engine.specs.Records.{turnsUp}
 use Rattle.engine.specs.Refusals.{newMulticast}
-use Rattle.engine.specs.LinkTable.{LinkHeld}
-use Rattle.engine.specs.declared.interface.HeldLink.{HeldLink}
+use Rattle.engine.specs.LinkTable.{LinkFound}
+use Rattle.engine.specs.declared.interface.LinkLookup.{LinkLookup}
 use Rattle.engine.specs.declared.interface.Interface.{Interface}
 use Rattle.engine.proofs.Parts.{both-true}
 use Rattle.engine.proofs.LinkTables as links
@@ -22,18 +22,18 @@ use Rattle.engine.proofs.LinkTables as links
 abbrev Entered : List Link → (List Link → Type 0) → Interface → Type 0
 Entered ls After k = (not (known byIndex (k .index) ls) && leb linksMax (length ls)) ≡ false → After (enter byIndex (linkOf k) ls)
 
-module _ (After : List Link → Type 0) {index : ℕ} {ls : List Link} {r : HeldLink} (h : LinkHeld index ls r) (k : Interface) (entered : Entered ls After k) where
+module _ (After : List Link → Type 0) {index : ℕ} {ls : List Link} {r : LinkLookup} (h : LinkFound index ls r) (k : Interface) (entered : Entered ls After k) where
   -- a link that was changed in its state or addresses alone has the index that was looked up
   index-of : {up : Bool} {l : List ℕ} → linkOf k ≡ linkWith (r .link .index) up l → k .index ≡ index
   unfolding linkOf
   index-of e = ap (λ (x : Link). x .index) e ∙ h .same
 
   -- ---- news of a link
-  pub link-told : {up : Bool} (flags : ℕ) → isMulticast flags ≡ true → up ≡ isUp flags
+  pub link-stored : {up : Bool} (flags : ℕ) → isMulticast flags ≡ true → up ≡ isUp flags
       → linkOf k ≡ linkWith (r .link .index) up (take (r .link .count) (r .link .addresses))
       → (newMulticast index flags ls && leb linksMax (length ls)) ≡ false → After (linkNews index flags ls)
   unfolding linkNews
-  link-told {up} flags m u e room =
+  link-stored {up} flags m u e room =
       let free : (not (known byIndex (k .index) ls) && leb linksMax (length ls)) ≡ false =
       ap (λ (j : ℕ). not (known byIndex j ls) && leb linksMax (length ls)) (index-of e) ∙ (rw m at room)
       in
@@ -46,11 +46,11 @@ module _ (After : List Link → Type 0) {index : ℕ} {ls : List Link} {r : Held
   held-in : {up : Bool} {l : List ℕ} → linkOf k ≡ linkWith (r .link .index) up l → r .known ≡ true → After (enter byIndex (linkOf k) ls)
   held-in e n = entered (links.held-room h (k .index) linksMax (index-of e) n)
 
-  pub address-told : {n : ℕ} (b : List ℕ) → stores index b ls ≡ true → n ≡ addressOf b
+  pub address-stored : {n : ℕ} (b : List ℕ) → stores index b ls ≡ true → n ≡ addressOf b
       → (leb addressesMax (length (take (r .link .count) (r .link .addresses))) ≡ false → linkOf k ≡ linkWith (r .link .index) (r .link .up) (take (r .link .count) (r .link .addresses) ++ (n ∷ [])))
       → (stores index b ls && leb addressesMax (length (addressesOf (linkAt index ls)))) ≡ false → After (addressNews index b ls)
   unfolding addressNews
-  address-told {n} b s a made room =
+  address-stored {n} b s a made room =
       let free : leb addressesMax (length (take (r .link .count) (r .link .addresses))) ≡ false =
       ap (λ (l : List ℕ). leb addressesMax (length l)) (h .addresses) ∙ (rw s at room)
       in
@@ -80,14 +80,14 @@ module _ (index : ℕ) (ls : List Link) where
   unfolding addressNews
   address-quiet b s = rw s
 
-  pub gone-quiet : {r : HeldLink} (b : List ℕ) → LinkHeld index ls r → (isV4 b && r .known) ≡ false → ls ≡ addressGone index b ls
+  pub gone-quiet : {r : LinkLookup} (b : List ℕ) → LinkFound index ls r → (isV4 b && r .known) ≡ false → ls ≡ addressGone index b ls
   unfolding addressGone
   gone-quiet b h t =
       let t′ : (isV4 b && known byIndex index ls) ≡ false = ap (λ (x : Bool). isV4 b && x) (sym (h .known)) ∙ t in
       rw t′
 
 -- ---- tests
-module _ {index : ℕ} {ls : List Link} {r : HeldLink} (h : LinkHeld index ls r) where
+module _ {index : ℕ} {ls : List Link} {r : LinkLookup} (h : LinkFound index ls r) where
   pub turns : {m u : Bool} (flags : ℕ) → m ≡ isMulticast flags → u ≡ isUp flags → (m && r .known && not (r .link .up) && u) ≡ turnsUp index flags ls
   turns flags m u = λ i. m i && h .known i && not (h .up i) && u i
 

@@ -22,12 +22,12 @@ use Rattle.engine.specs.Shifts.{movedUp, movedDown}
 use Rattle.engine.specs.Spot.{Spotted}
 use Rattle.engine.specs.Held.{Link, linkOf, byIndex}
 use Rattle.engine.specs.Links.{anyUp, addressesOf}
-use Rattle.engine.specs.LinkTable.{LinkHeld}
+use Rattle.engine.specs.LinkTable.{LinkFound}
 use Rattle.engine.specs.Replies.{one}
 use Rattle.engine.specs.Arrays.{low32, firstAddress, linkWidth, linkNumbers, linkIn, linkRows, linkAtRow, linkCount, linksIn}
 use Rattle.engine.specs.Changes.{LinkFilled, LinksAfter}
 use Rattle.engine.specs.declared.interface.Interface.{Interface}
-use Rattle.engine.specs.declared.interface.HeldLink.{HeldLink}
+use Rattle.engine.specs.declared.interface.LinkLookup.{LinkLookup}
 use Rattle.engine.specs.declared.source.Sources.{Sources}
 use Rattle.engine.specs.declared.table.Spot.{Spot}
 use Rattle.engine.proofs.Slots.{clamped}
@@ -216,7 +216,7 @@ module _ (head links : List ℕ) where
     spot-inside e = omega (arith, s .at, tables.known-lt byIndex x (linksIn head links) (is e), links-length)
 
     -- the link that is held there
-    pub there : (k : Interface) → r .known ≡ true → linkOf k ≡ linkAtRow (r .at) links → LinkHeld x (linksIn head links) (record { known = true; link = k })
+    pub there : (k : Interface) → r .known ≡ true → linkOf k ≡ linkAtRow (r .at) links → LinkFound x (linksIn head links) (record { known = true; link = k })
     unfolding linkOf anyUp addressesOf
     there k e a =
         let l = linksIn head links in
@@ -237,7 +237,7 @@ module _ (head links : List ℕ) where
 
     -- one that is not held
     pub nowhere : (padding : List ℕ) → r .known ≡ false
-        → LinkHeld x (linksIn head links) (record { known = false; link = record { index = x; up = false; count = 0; addresses = padding } })
+        → LinkFound x (linksIn head links) (record { known = false; link = record { index = x; up = false; count = 0; addresses = padding } })
     unfolding anyUp addressesOf
     nowhere padding e =
         let h = tables.entry-unknown byIndex x (linksIn head links) (is e) in

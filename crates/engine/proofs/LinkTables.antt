@@ -8,11 +8,11 @@ use lib.ListN.{length, take}
 use Rattle.engine.specs.Table.{known}
 use Rattle.engine.specs.Held.{Link, byIndex}
 use Rattle.engine.specs.Links.{linkAt, anyUp, addressesOf, linkWith}
-use Rattle.engine.specs.LinkTable.{LinkHeld}
-use Rattle.engine.specs.declared.interface.HeldLink.{HeldLink}
+use Rattle.engine.specs.LinkTable.{LinkFound}
+use Rattle.engine.specs.declared.interface.LinkLookup.{LinkLookup}
 
 -- ---- the link as the definitions of news name it
-module _ {index : ℕ} {ls : List Link} {r : HeldLink} (h : LinkHeld index ls r) where
+module _ {index : ℕ} {ls : List Link} {r : LinkLookup} (h : LinkFound index ls r) where
   pub as-held : (up : Bool) (f : List ℕ → List ℕ) → linkWith (r .link .index) up (f (take (r .link .count) (r .link .addresses))) ≡ linkWith index up (f (addressesOf (linkAt index ls)))
   as-held up f = λ i. record { index = h .same i; up = up; addresses = f (h .addresses i) }
 

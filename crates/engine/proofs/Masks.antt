@@ -31,13 +31,13 @@ unfolding anyAll
 all-never e p = sym (p ∙ rw e)
 
 -- ---- the mask
-module _ (kind : Text) where
-  pub mask-none : {rest : List Text} → rest ≡ [] → 0 ≡ maskOf rest kind
+module _ (service : Text) where
+  pub mask-none : {rest : List Text} → rest ≡ [] → 0 ≡ maskOf rest service
   unfolding maskOf
   mask-none e = rw e
 
-  pub mask-turn : (mask : ℕ) (bit : Bool) {rest more : List Text} {s : Text} {r : ℕ} → rest ≡ s ∷ more → bit ≡ targetMatch s kind → r ≡ one bit + 2 * mask → mask ≡ maskOf more kind
-      → r ≡ maskOf rest kind
+  pub mask-turn : (mask : ℕ) (bit : Bool) {rest more : List Text} {s : Text} {r : ℕ} → rest ≡ s ∷ more → bit ≡ targetMatch s service → r ≡ one bit + 2 * mask → mask ≡ maskOf more service
+      → r ≡ maskOf rest service
   unfolding maskOf
   mask-turn mask bit e b r m = r ∙ rw (e, b, m)
 
@@ -45,13 +45,13 @@ module _ (kind : Text) where
   bit-small true = omega arith
   bit-small false = omega arith
 
-  mask-small : (l : List Text) → maskOf l kind < 2 ^ length l
+  mask-small : (l : List Text) → maskOf l service < 2 ^ length l
   unfolding maskOf
   mask-small [] = omega arith
-  mask-small (s ∷ l) = omega (arith, bit-small (targetMatch s kind), mask-small l, pow-suc 2 (length l))
+  mask-small (s ∷ l) = omega (arith, bit-small (targetMatch s service), mask-small l, pow-suc 2 (length l))
 
   -- that of 31 subscriptions or fewer has room for one bit more
-  pub mask-fits : (l : List Text) → length l ≤ 31 → maskOf l kind < 2147483648
+  pub mask-fits : (l : List Text) → length l ≤ 31 → maskOf l service < 2147483648
   mask-fits l h = omega (arith, mask-small l, pow-mono {i = length l} {j = 31} h)
 
   -- the count of ones of a mask is the number of matches
@@ -61,7 +61,7 @@ module _ (kind : Text) where
       let high : (one b + 2 * m) / 2 ≡ m = omega (arith, bit-small b) in
       ones-step (one b + 2 * m) ∙ ap (λ (x : ℕ). x + ones ((one b + 2 * m) / 2)) low ∙ ap (λ (x : ℕ). one b + ones x) high
 
-  pub told-ones : (l : List Text) → ones (maskOf l kind) ≡ toldOf l kind
+  pub told-ones : (l : List Text) → ones (maskOf l service) ≡ toldOf l service
   unfolding maskOf toldOf ones
   told-ones [] = refl
-  told-ones (s ∷ l) = bit-ones (targetMatch s kind) (maskOf l kind) ∙ ap (λ (x : ℕ). one (targetMatch s kind) + x) (told-ones l)
+  told-ones (s ∷ l) = bit-ones (targetMatch s service) (maskOf l service) ∙ ap (λ (x : ℕ). one (targetMatch s service) + x) (told-ones l)

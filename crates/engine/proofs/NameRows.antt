@@ -16,7 +16,7 @@ use Rattle.engine.specs.Slots.{insertAt, removeAt}
 use Rattle.engine.specs.Shifts.{movedUp, movedDown}
 use Rattle.engine.specs.Replies.{newcomer}
 use Rattle.engine.specs.Rows.{row}
-use Rattle.engine.specs.Arrays.{numbersWidth, numbersSize, textsWidth, textsSize, kindPlace, locationPlace, answerPlace, textIn, replyOf, replyIn, replyAt, entryIn, entryAt, entries, nameCount, namesIn}
+use Rattle.engine.specs.Arrays.{numbersWidth, numbersSize, textsWidth, textsSize, servicePlace, locationPlace, answerPlace, textIn, replyOf, replyIn, replyAt, entryIn, entryAt, entries, nameCount, namesIn}
 use Rattle.engine.specs.Changes.{changeAt, blank, withActive, Replied, Answered, NewNumbers, NewTexts, Filled}
 use Rattle.engine.specs.declared.advertisement.ResponseNeeded.{ResponseNeeded}
 use Rattle.engine.specs.declared.advertisement.ResponseNeeded.the-variants.{Unicast}
@@ -97,9 +97,9 @@ module _ (i : ℕ) (ns ts : List ℕ) (h : i < advertisementsMax) (b : length ts
       ap (λ (p : ℕ). textIn (getD ns (numbersWidth * i + 0) 0) p nameMax ts) (sym (add-zero (textsWidth * i)))
       ∙ text-at 0 0 nameMax (omega arith) (omega arith)
 
-  pub kind-at : textIn (getD ns (numbersWidth * i + 1) 0) (textsWidth * i + kindPlace) typeMax ts ≡ entryAt i ns ts .kind
+  pub service-at : textIn (getD ns (numbersWidth * i + 1) 0) (textsWidth * i + servicePlace) typeMax ts ≡ entryAt i ns ts .service
   unfolding entryIn
-  kind-at = text-at 1 kindPlace typeMax (omega arith) (omega arith)
+  service-at = text-at 1 servicePlace typeMax (omega arith) (omega arith)
 
   pub location-at : textIn (getD ns (numbersWidth * i + 2) 0) (textsWidth * i + locationPlace) locationMax ts ≡ entryAt i ns ts .location
   unfolding entryIn
@@ -134,7 +134,7 @@ reply-written (_ ∷ _ ∷ _ ∷ _ ∷ _ ∷ _ ∷ []) c d s p r e = absurd (ome
 reply-written (_ ∷ _ ∷ _ ∷ _ ∷ _ ∷ _ ∷ _ ∷ []) c d s p r e = absurd (omega arith)
 reply-written (_ ∷ _ ∷ _ ∷ _ ∷ _ ∷ _ ∷ _ ∷ _ ∷ []) c d s p r e = absurd (omega arith)
 reply-written (_ ∷ _ ∷ _ ∷ _ ∷ _ ∷ _ ∷ _ ∷ _ ∷ _ ∷ l) c d s p r e =
-    record { reply = refl; name = refl; kind = refl; location = refl; answer = refl }
+    record { reply = refl; name = refl; service = refl; location = refl; answer = refl }
 
 pub new-numbers : (ns : List ℕ) (a b c : ℕ) → length ns ≡ numbersWidth → NewNumbers a b c (set (set (set (set (set ns 0 a) 1 b) 2 c) 3 0) 4 0)
 unfolding replyIn replyOf
@@ -143,7 +143,7 @@ new-numbers (_ ∷ []) a b c e = absurd (omega arith)
 new-numbers (_ ∷ _ ∷ []) a b c e = absurd (omega arith)
 new-numbers (_ ∷ _ ∷ _ ∷ []) a b c e = absurd (omega arith)
 new-numbers (_ ∷ _ ∷ _ ∷ _ ∷ []) a b c e = absurd (omega arith)
-new-numbers (_ ∷ _ ∷ _ ∷ _ ∷ _ ∷ l) a b c e = record { name = refl; kind = refl; location = refl; answer = refl; reply = refl }
+new-numbers (_ ∷ _ ∷ _ ∷ _ ∷ _ ∷ l) a b c e = record { name = refl; service = refl; location = refl; answer = refl; reply = refl }
 
 -- numbers that are narrow already
 pub lone : (due s p r : ℕ) → s < 4294967296 → p < 65536 → r < 4294967296 → replyOf 2 due s p r ≡ Unicast due (record { address = s; port = p }) r
@@ -151,7 +151,7 @@ unfolding replyOf
 lone due s p r h i j = λ k. Unicast due (record { address = mod-eq-of-lt h k; port = mod-eq-of-lt i k }) (mod-eq-of-lt j k)
 
 pub replied : {x y : ResponseNeeded} {len : ℕ} {r r′ : List ℕ} → x ≡ y → Replied x len r r′ → Replied y len r r′
-replied e p = record { reply = p .reply ∙ e; name = p .name; kind = p .kind; location = p .location; answer = p .answer }
+replied e p = record { reply = p .reply ∙ e; name = p .name; service = p .service; location = p .location; answer = p .answer }
 
 -- a length of the answer type beside it
 pub with-length : {x : ResponseNeeded} {old : ℕ} {r r′ : List ℕ} (len : ℕ) → length r′ ≡ numbersWidth → Replied x old r r′ → Replied x len r (set r′ 3 len)
@@ -159,7 +159,7 @@ unfolding replyIn
 with-length {r′ = r′} len e p = record {
   reply = (λ j. replyOf (other 4 (omega arith) j) (other 5 (omega arith) j) (other 6 (omega arith) j) (other 7 (omega arith) j) (other 8 (omega arith) j)) ∙ p .reply;
   name = other 0 (omega arith) ∙ p .name;
-  kind = other 1 (omega arith) ∙ p .kind;
+  service = other 1 (omega arith) ∙ p .service;
   location = other 2 (omega arith) ∙ p .location;
   answer = getD-set-same r′ 3 len 0 (omega arith);
 }
@@ -195,18 +195,18 @@ module _ (n place size : ℕ) (a b : List ℕ) (h : place + size ≤ n) where
 
 pub new-texts : (q a b c n k l : List ℕ) {r s t : ℕ} → length q ≡ textsWidth → length a ≡ textsWidth → length b ≡ textsWidth → length c ≡ textsWidth
     → length n ≤ nameMax → length k ≤ typeMax → length l ≤ locationMax
-    → Put q 0 n a r → Put a kindPlace k b s → Put b locationPlace l c t → NewTexts n k l c
+    → Put q 0 n a r → Put a servicePlace k b s → Put b locationPlace l c t → NewTexts n k l c
 new-texts q a b c n k l eq ea eb ec hn hk hl x y z =
     let front : take locationPlace c ≡ take locationPlace b = put-front (omega arith) z in
     record {
       name =
           take-take (length n) nameMax c hn
           ∙ same-part locationPlace 0 (length n) c b (omega arith) (omega arith) (omega arith) front
-          ∙ same-part kindPlace 0 (length n) b a (omega arith) (omega arith) (omega arith) (put-front (omega arith) y)
+          ∙ same-part servicePlace 0 (length n) b a (omega arith) (omega arith) (omega arith) (put-front (omega arith) y)
           ∙ put-there (omega arith) x;
-      kind =
-          take-take (length k) typeMax (drop kindPlace c) hk
-          ∙ same-part locationPlace kindPlace (length k) c b (omega arith) (omega arith) (omega arith) front
+      service =
+          take-take (length k) typeMax (drop servicePlace c) hk
+          ∙ same-part locationPlace servicePlace (length k) c b (omega arith) (omega arith) (omega arith) front
           ∙ put-there (omega arith) y;
       location = take-take (length l) locationMax (drop locationPlace c) hl ∙ put-there (omega arith) z;
     }
@@ -306,17 +306,17 @@ module _ (i : ℕ) (ns ts r : List ℕ) where
     texts-back : textsAfter ≡ take (textsWidth * i) ts ++ (q ++ drop textsWidth (drop (textsWidth * i) ts))
     texts-back = ap (λ (l : List ℕ). take (textsWidth * i) ts ++ (q ++ l)) (part-behind (textsWidth * i) textsWidth ts)
 
-    pub new-row : {a b c : ℕ} (name kind location : List ℕ) → length r ≡ numbersWidth → length q ≡ textsWidth
-        → a ≡ length name → b ≡ length kind → c ≡ length location → NewNumbers a b c r → NewTexts name kind location q
-        → Filled i (newcomer name kind location) ns ts numbersAfter textsAfter
+    pub new-row : {a b c : ℕ} (name service location : List ℕ) → length r ≡ numbersWidth → length q ≡ textsWidth
+        → a ≡ length name → b ≡ length service → c ≡ length location → NewNumbers a b c r → NewTexts name service location q
+        → Filled i (newcomer name service location) ns ts numbersAfter textsAfter
     unfolding entryIn
-    new-row name kind location e f x y z m t = record {
+    new-row name service location e f x y z m t = record {
       row = r;
       line = q;
       sizes = (e, f);
       entry = λ j. record {
         name = (ap (λ (k : ℕ). textIn k 0 nameMax q) (m .name ∙ x) ∙ t .name) j;
-        kind = (ap (λ (k : ℕ). textIn k kindPlace typeMax q) (m .kind ∙ y) ∙ t .kind) j;
+        service = (ap (λ (k : ℕ). textIn k servicePlace typeMax q) (m .service ∙ y) ∙ t .service) j;
         location = (ap (λ (k : ℕ). textIn k locationPlace locationMax q) (m .location ∙ z) ∙ t .location) j;
         needed = m .reply j;
         answer = ap (λ (k : ℕ). textIn k answerPlace typeMax q) (m .answer) j;
@@ -344,7 +344,7 @@ module _ (i : ℕ) (ns ts r : List ℕ) where
           sizes = (e, f);
           entry = λ j. record {
             name = take ((o .name ∙ ap (λ (z : List ℕ). getD z 0 0) x) j) (part 0 nameMax (omega arith) j);
-            kind = take ((o .kind ∙ ap (λ (z : List ℕ). getD z 1 0) x) j) (part kindPlace typeMax (omega arith) j);
+            service = take ((o .service ∙ ap (λ (z : List ℕ). getD z 1 0) x) j) (part servicePlace typeMax (omega arith) j);
             location = take ((o .location ∙ ap (λ (z : List ℕ). getD z 2 0) x) j) (part locationPlace locationMax (omega arith) j);
             needed = o .reply j;
             answer = take ((o .answer ∙ same) j) (t .answer j);
@@ -362,7 +362,7 @@ module _ (i : ℕ) (ns ts r : List ℕ) where
       let new : entryIn r t ≡ withActive reply (entryAt i ns ts .answer) (entryAt i ns ts) =
       λ j. record {
         name = textIn ((p .name ∙ ap (λ (z : List ℕ). getD z 0 0) x) j) 0 nameMax t;
-        kind = textIn ((p .kind ∙ ap (λ (z : List ℕ). getD z 1 0) x) j) kindPlace typeMax t;
+        service = textIn ((p .service ∙ ap (λ (z : List ℕ). getD z 1 0) x) j) servicePlace typeMax t;
         location = textIn ((p .location ∙ ap (λ (z : List ℕ). getD z 2 0) x) j) locationPlace locationMax t;
         needed = p .reply j;
         answer = textIn ((p .answer ∙ ap (λ (z : List ℕ). getD z 3 0) x) j) answerPlace typeMax t;

@@ -11,7 +11,7 @@ use Rattle.engine.specs.Held.{Held, Advertisement}
 use Rattle.engine.specs.Calls.{Timeout, acts, zeros}
 use Rattle.engine.specs.Links.{upAddresses, contextAfter}
 use Rattle.engine.specs.Layout.{Sent}
-use Rattle.engine.specs.Tallies.{sends}
+use Rattle.engine.specs.Outcomes.{sends}
 use Rattle.engine.specs.Engine.{poll}
 use Rattle.engine.proofs.Answering.{plus-zeros, sent-as, sent-nothing, not-chosen}
 use Rattle.engine.proofs.Lending.{Done}
@@ -53,7 +53,7 @@ module _ (time : ℕ) where
   none-served t [] h = refl
   none-served t (a ∷ l) h =
       let e = here t a l h in
-      λ j. record { name = a .name; kind = a .kind; location = a .location; needed = servedNeed (e j) (a .needed); answer = a .answer }
+      λ j. record { name = a .name; service = a .service; location = a .location; needed = servedNeed (e j) (a .needed); answer = a .answer }
       ∷ none-served (sooner t (a .needed)) l h j
 
   pub none-alone : (t : ℕ) (l : List Advertisement) → time < soonest t l → sumOf (aloneAt time) l ≡ 0

@@ -105,10 +105,10 @@ zero-turn buffer after at n i next e h g p =
     ap (set after next) (sym (getD-replicate n i 0 0 g)) ∙ put.turn buffer after (replicate n 0) at i next e h (rw length-replicate g) p
 
 -- a location by another name
-pub located : {kind name url url′ buffer after : List ℕ} {answer : Built} (text : List ℕ → List ℕ) → url ≡ url′
-    → Builds (locatedTexts kind name url) (text url) buffer after answer → Builds (locatedTexts kind name url′) (text url′) buffer after answer
-located {kind} {name} {url} {url′} {buffer} {after} {answer} text e b =
-    subst (λ (u : List ℕ). Builds (locatedTexts kind name u) (text u) buffer after answer) e b
+pub located : {service name url url′ buffer after : List ℕ} {answer : Built} (text : List ℕ → List ℕ) → url ≡ url′
+    → Builds (locatedTexts service name url) (text url) buffer after answer → Builds (locatedTexts service name url′) (text url′) buffer after answer
+located {service} {name} {url} {url′} {buffer} {after} {answer} text e b =
+    subst (λ (u : List ℕ). Builds (locatedTexts service name u) (text u) buffer after answer) e b
 
 -- ---- what a build function leaves of a record's message in a buffer that has room for any
 module _ (r : Record) {buffer after : List ℕ} {answer : Built} (room : recordSize - headSize ≤ length buffer) (builds : Builds (textsOf r) (textOf r) buffer after answer) where

@@ -35,14 +35,14 @@ within (t ∷ ts) e = go (ltb (t .largest) (length (t .text))) refl e (within ts
 
 -- what the build functions take fits
 pub text-fits : (r : Record) → anyOverSize (textsOf r) ≡ false → length (textOf r) ≤ recordSize - headSize
-text-fits (SearchFrom source kind) e = omega (arith, search-length kind, within (searchTexts kind) e)
-text-fits (NotifyFrom source kind name location) e =
+text-fits (SearchFrom source service) e = omega (arith, search-length service, within (searchTexts service) e)
+text-fits (NotifyFrom source service name location) e =
     let url = rewritten location source in
-    omega (arith, notify-length kind name url, within (locatedTexts kind name url) e)
-text-fits (ByeByeFrom source kind name) e = omega (arith, byebye-length kind name, within (byebyeTexts kind name) e)
-text-fits (ResponseFrom source to kind name location) e =
+    omega (arith, notify-length service name url, within (locatedTexts service name url) e)
+text-fits (ByeByeFrom source service name) e = omega (arith, byebye-length service name, within (byebyeTexts service name) e)
+text-fits (ResponseFrom source to service name location) e =
     let url = rewritten location source in
-    omega (arith, response-length kind name url, within (locatedTexts kind name url) e)
+    omega (arith, response-length service name url, within (locatedTexts service name url) e)
 
 pub message-fits : (r : Record) → length (messageOf r) ≤ recordSize - headSize
 unfolding messageOf

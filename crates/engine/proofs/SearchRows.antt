@@ -46,21 +46,21 @@ type-is s i r e =
     in
     ap (λ (k : ℕ). take k (drop (at + 1) s)) (n ∙ e) ∙ cut (getD s at 0) typeMax (drop (at + 1) s) ∙ (λ j. take (len j) (rest j))
 
-pub type-put : (r kind : List ℕ) {after : List ℕ} {next : ℕ} → length r ≡ searchWidth → length kind ≤ typeMax → Put (set r 0 (length kind)) 1 kind after next
-    → searchIn after ≡ kind
+pub type-put : (r service : List ℕ) {after : List ℕ} {next : ℕ} → length r ≡ searchWidth → length service ≤ typeMax → Put (set r 0 (length service)) 1 service after next
+    → searchIn after ≡ service
 unfolding searchIn overwritten
-type-put [] kind e h p = absurd (omega arith)
-type-put (a ∷ r) kind e h p =
-    let y = drop (1 + length kind) (length kind ∷ r) in
-    ap searchIn (p .written) ∙ take-take (length kind) typeMax (kind ++ y) h ∙ take-at kind y (length kind) refl
+type-put [] service e h p = absurd (omega arith)
+type-put (a ∷ r) service e h p =
+    let y = drop (1 + length service) (length service ∷ r) in
+    ap searchIn (p .written) ∙ take-take (length service) typeMax (service ++ y) h ∙ take-at service y (length service) refl
 
-pub put-length : (r kind : List ℕ) → length r ≡ searchWidth → length kind ≤ typeMax → 1 + length kind ≤ length (set r 0 (length kind))
-put-length [] kind e h = absurd (omega arith)
-put-length (a ∷ r) kind e h = omega arith
+pub put-length : (r service : List ℕ) → length r ≡ searchWidth → length service ≤ typeMax → 1 + length service ≤ length (set r 0 (length service))
+put-length [] service e h = absurd (omega arith)
+put-length (a ∷ r) service e h = omega arith
 
 -- a row behind the first n
-pub type-pushed : (s d : List ℕ) {kind : List ℕ} (n k : ℕ) → n < subscriptionsMax → length s ≡ searchBytes → length d ≡ searchWidth → k ≡ searchWidth → searchIn d ≡ kind
-    → searchRows (suc n) (take (searchWidth * n) s ++ (d ++ drop k (drop (searchWidth * n) s))) ≡ searchRows n s ++ (kind ∷ [])
+pub type-pushed : (s d : List ℕ) {service : List ℕ} (n k : ℕ) → n < subscriptionsMax → length s ≡ searchBytes → length d ≡ searchWidth → k ≡ searchWidth → searchIn d ≡ service
+    → searchRows (suc n) (take (searchWidth * n) s ++ (d ++ drop k (drop (searchWidth * n) s))) ≡ searchRows n s ++ (service ∷ [])
 type-pushed s d n k h e g w q =
     lines-push searchWidth searchIn n s d (omega arith) g (ap (λ (m : ℕ). take (searchWidth * n) s ++ (d ++ drop m (drop (searchWidth * n) s))) w)
     ∙ ap (λ (t : Text). searchRows n s ++ (t ∷ [])) q

@@ -127,10 +127,10 @@ need-of due target sender receiver None = refl
 need-of due target sender receiver (Multicast d) = refl
 need-of due target sender receiver (Unicast d s r) = refl
 
-module _ (due : ℕ) (q : Query) (kind answer : Text) where
+module _ (due : ℕ) (q : Query) (service answer : Text) where
   record Opens (n : ResponseNeeded) : Type 0 where
     pub reply : Unicast due (q .sender) (q .receiver) ≡ askedNeed true due q n
-    pub type : answerType (q .target) kind ≡ askedAnswer true q kind n answer
+    pub type : answerType (q .target) service ≡ askedAnswer true q service n answer
     pub none : 0 ≡ waits n
 
   none-waits : (n : ResponseNeeded) → isNone n ≡ true → Opens n
@@ -138,29 +138,29 @@ module _ (due : ℕ) (q : Query) (kind answer : Text) where
   none-waits (Multicast d) e = absurd (false≢true e)
   none-waits (Unicast d s r) e = absurd (false≢true e)
 
-  one-waits : (n : ResponseNeeded) → isNone n ≡ false → (answer ≡ askedAnswer true q kind n answer) × (1 ≡ waits n)
+  one-waits : (n : ResponseNeeded) → isNone n ≡ false → (answer ≡ askedAnswer true q service n answer) × (1 ≡ waits n)
   one-waits None e = absurd (false≢true (sym e))
   one-waits (Multicast d) e = (refl, refl)
   one-waits (Unicast d s r) e = (refl, refl)
 
 -- the type that an opened reply answers in
-module _ {all : Bool} (i : ℕ) (kind target : Text) (needed : ResponseNeeded) (l : List Advertisement) where
-  pub own-type : {n : ResponseNeeded} {t : Text} → n ≡ needed → t ≡ kind → all ≡ true → changeAt blank i (withActive n t) l ≡ changeAt blank i (withActive needed (cond all kind target)) l
+module _ {all : Bool} (i : ℕ) (service target : Text) (needed : ResponseNeeded) (l : List Advertisement) where
+  pub own-type : {n : ResponseNeeded} {t : Text} → n ≡ needed → t ≡ service → all ≡ true → changeAt blank i (withActive n t) l ≡ changeAt blank i (withActive needed (cond all service target)) l
   own-type p q e = rw (p, q, e)
 
-  pub target-type : all ≡ false → changeAt blank i (withActive needed target) l ≡ changeAt blank i (withActive needed (cond all kind target)) l
+  pub target-type : all ≡ false → changeAt blank i (withActive needed target) l ≡ changeAt blank i (withActive needed (cond all service target)) l
   target-type e = rw e
 
 -- ---- one entry: a search
 module _ (due : ℕ) (q : Query) (a : Advertisement) where
-  asked-with : {n : ResponseNeeded} {t : Text} → n ≡ askedNeed (hits q a) due q (a .needed) → t ≡ askedAnswer (hits q a) q (a .kind) (a .needed) (a .answer)
+  asked-with : {n : ResponseNeeded} {t : Text} → n ≡ askedNeed (hits q a) due q (a .needed) → t ≡ askedAnswer (hits q a) q (a .service) (a .needed) (a .answer)
       → withActive n t a ≡ asked due q a
   unfolding asked
-  asked-with p r = λ i. record { name = a .name; kind = a .kind; location = a .location; needed = p i; answer = r i }
+  asked-with p r = λ i. record { name = a .name; service = a .service; location = a .location; needed = p i; answer = r i }
 
   module _ {l : List Advertisement} {i : ℕ} (here : getD l i blank ≡ a) where
     module _ (f : hits q a ≡ true) where
-      ask-hit : {l′ : List Advertisement} {n : ResponseNeeded} {t : Text} {w : ℕ} → n ≡ askedNeed true due q (a .needed) → t ≡ askedAnswer true q (a .kind) (a .needed) (a .answer)
+      ask-hit : {l′ : List Advertisement} {n : ResponseNeeded} {t : Text} {w : ℕ} → n ≡ askedNeed true due q (a .needed) → t ≡ askedAnswer true q (a .service) (a .needed) (a .answer)
           → l′ ≡ changeAt blank i (withActive n t) l → w ≡ waits (a .needed) → w ≤ 1 → PassOne (asked due q) (matchedBy q) (joinedBy q) blank i l l′ 1 w
       unfolding matchedBy joinedBy
       ask-hit {n = n} {t = t} p r e x g =
@@ -176,17 +176,17 @@ module _ (due : ℕ) (q : Query) (a : Advertisement) where
       -- no reply waits: what the search opens is stored
       pub ask-opens : {l′ : List Advertisement} {m : ResponseNeeded} {all : Bool} (x : ActiveAdvertisement) → Opening (q .target) due (q .sender) (q .receiver) all x
           → m ≡ a .needed → isNone m ≡ true
-          → l′ ≡ changeAt blank i (withActive (x .«response_needed») (cond all (a .kind) (take (x .«answer_len») (x .answer)))) l
+          → l′ ≡ changeAt blank i (withActive (x .«response_needed») (cond all (a .service) (take (x .«answer_len») (x .answer)))) l
           → PassOne (asked due q) (matchedBy q) (joinedBy q) blank i l l′ 1 0
       ask-opens x o e z r =
-          let k = none-waits due q (a .kind) (a .answer) (a .needed) (ap isNone (sym e) ∙ z) in
-          ask-hit (o .reply ∙ k .reply) ((λ j. cond (o .every j) (a .kind) (o .answer j)) ∙ k .type) r (k .none) (omega arith)
+          let k = none-waits due q (a .service) (a .answer) (a .needed) (ap isNone (sym e) ∙ z) in
+          ask-hit (o .reply ∙ k .reply) ((λ j. cond (o .every j) (a .service) (o .answer j)) ∙ k .type) r (k .none) (omega arith)
 
       -- one waits: the joined reply is stored, and the answer type stays
       pub ask-joins : {l′ : List Advertisement} {m n : ResponseNeeded} → m ≡ a .needed → isNone m ≡ false → n ≡ askedNeed true due q m
           → l′ ≡ changeAt blank i (λ b. withActive n (b .answer) b) l → PassOne (asked due q) (matchedBy q) (joinedBy q) blank i l l′ 1 1
       ask-joins {n = n} e z p r =
-          let k = one-waits due q (a .kind) (a .answer) (a .needed) (ap isNone (sym e) ∙ z) in
+          let k = one-waits due q (a .service) (a .answer) (a .needed) (ap isNone (sym e) ∙ z) in
           ask-hit (p ∙ ap (askedNeed true due q) e) (k .0) (r ∙ ap (λ (b : Advertisement). set l i (withActive n (b .answer) (getD l i blank))) here) (k .1) (omega arith)
 
     pub ask-miss : hits q a ≡ false → PassOne (asked due q) (matchedBy q) (joinedBy q) blank i l l 0 0
@@ -216,7 +216,7 @@ asked-by {l} seed due q e a = record {
 module _ (time : ℕ) (a : Advertisement) where
   served-with : {n : ResponseNeeded} → n ≡ servedNeed (isDue time (a .needed)) (a .needed) → withActive n (a .answer) a ≡ served time a
   unfolding served
-  served-with p = λ i. record { name = a .name; kind = a .kind; location = a .location; needed = p i; answer = a .answer }
+  served-with p = λ i. record { name = a .name; service = a .service; location = a .location; needed = p i; answer = a .answer }
 
   module _ {l : List Advertisement} {i : ℕ} (here : getD l i blank ≡ a) {n : ResponseNeeded} (e : n ≡ a .needed) where
     pub serve-due : {l′ : List Advertisement} {x y : ℕ} → isDue time n ≡ true → l′ ≡ changeAt blank i (λ b. withActive None (b .answer) b) l

@@ -32,20 +32,20 @@ module _ (due : ℕ) (q : Query) where
   needed-parts true (Multicast d) = refl
   needed-parts true (Unicast d s r) = refl
 
-  answer-parts : (b : Bool) (kind : Text) (n : ResponseNeeded) (t : Text) → askedAnswer b parts kind n t ≡ askedAnswer b q kind n t
-  answer-parts false kind n t = refl
-  answer-parts true kind None t = refl
-  answer-parts true kind (Multicast d) t = refl
-  answer-parts true kind (Unicast d s r) t = refl
+  answer-parts : (b : Bool) (service : Text) (n : ResponseNeeded) (t : Text) → askedAnswer b parts service n t ≡ askedAnswer b q service n t
+  answer-parts false service n t = refl
+  answer-parts true service None t = refl
+  answer-parts true service (Multicast d) t = refl
+  answer-parts true service (Unicast d s r) t = refl
 
   one-parts : (a : Advertisement) → asked due parts a ≡ asked due q a
   unfolding asked
   one-parts a = λ i. record {
     name = a .name;
-    kind = a .kind;
+    service = a .service;
     location = a .location;
     needed = needed-parts (hits q a) (a .needed) i;
-    answer = answer-parts (hits q a) (a .kind) (a .needed) (a .answer) i;
+    answer = answer-parts (hits q a) (a .service) (a .needed) (a .answer) i;
   }
 
   pub asked-parts : (as′ : List Advertisement) → map (asked due (askedBy (q .target) (q .sender) (q .receiver))) as′ ≡ map (asked due q) as′

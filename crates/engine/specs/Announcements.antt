@@ -8,14 +8,14 @@ use Rattle.engine.specs.declared.announce.Announcement.the-variants.{Sea
 
 -- its record from one address
 abbrev pub announced : Announcement → Text → Text → Text → ℕ → Record
-announced Search kind name location source = SearchFrom source kind
-announced Alive kind name location source = NotifyFrom source kind name location
-announced ByeBye kind name location source = ByeByeFrom source kind name
+announced Search service name location source = SearchFrom source service
+announced Alive service name location source = NotifyFrom source service name location
+announced ByeBye service name location source = ByeByeFrom source service name
 
 -- and from each of these
 abbrev pub announcedOn : List ℕ → Announcement → Text → Text → Text → List Record
-announcedOn up what kind name location = map (announced what kind name location) up
+announcedOn up what service name location = map (announced what service name location) up
 
 -- of an advertisement
 abbrev pub entryOn : List ℕ → Announcement → Advertisement → List Record
-entryOn up what a = announcedOn up what (a .kind) (a .name) (a .location)
+entryOn up what a = announcedOn up what (a .service) (a .name) (a .location)

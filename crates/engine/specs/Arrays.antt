@@ -115,11 +115,11 @@ numbersWidth = 9
 abbrev pub numbersSize : ℕ
 numbersSize = numbersWidth * advertisementsMax
 
-abbrev pub kindPlace : ℕ
-kindPlace = nameMax
+abbrev pub servicePlace : ℕ
+servicePlace = nameMax
 
 abbrev pub locationPlace : ℕ
-locationPlace = kindPlace + typeMax
+locationPlace = servicePlace + typeMax
 
 abbrev pub answerPlace : ℕ
 answerPlace = locationPlace + locationMax
@@ -145,7 +145,7 @@ textIn len place size q = take len (take size (drop place q))
 unfoldable pub entryIn : List ℕ → List ℕ → Advertisement
 entryIn r q = record {
   name = textIn (getD r 0 0) 0 nameMax q;
-  kind = textIn (getD r 1 0) kindPlace typeMax q;
+  service = textIn (getD r 1 0) servicePlace typeMax q;
   location = textIn (getD r 2 0) locationPlace locationMax q;
   needed = replyIn r;
   answer = textIn (getD r 3 0) answerPlace typeMax q;

@@ -9,7 +9,7 @@ use Rattle.engine.specs.Target.{ssdpAll}
 use Rattle.engine.specs.Held.{Text, Link, Advertisement}
 use Rattle.engine.specs.Calls.{Query, Asks}
 use Rattle.engine.specs.Replies.{sumOf, result}
-use Rattle.engine.specs.Arrays.{linkWidth, linkIn, linkRows, numbersWidth, textsWidth, replyIn, textIn, kindPlace, locationPlace, answerPlace, entryIn, entries}
+use Rattle.engine.specs.Arrays.{linkWidth, linkIn, linkRows, numbersWidth, textsWidth, replyIn, textIn, servicePlace, locationPlace, answerPlace, entryIn, entries}
 use Rattle.message.specs.Build.{typeMax, nameMax}
 use Rattle.engine.specs.Sizes.{advertisementsMax, linksMax, locationMax}
 use Rattle.engine.specs.declared.advertisement.Endpoint.{Endpoint}
@@ -22,11 +22,11 @@ abbrev pub changeAt : {A : Type 0} → A → ℕ → (A → A) → List A → Li
 changeAt d i f l = set l i (f (getD l i d))
 
 abbrev pub blank : Advertisement
-blank = record { name = []; kind = []; location = []; needed = None; answer = [] }
+blank = record { name = []; service = []; location = []; needed = None; answer = [] }
 
 -- another waiting reply and answer type
 abbrev pub withActive : ResponseNeeded → Text → Advertisement → Advertisement
-withActive needed answer a = record { name = a .name; kind = a .kind; location = a .location; needed = needed; answer = answer }
+withActive needed answer a = record { name = a .name; service = a .service; location = a .location; needed = needed; answer = answer }
 
 -- ---- a pass over a list: each entry is replaced by what `f` makes of it, and two numbers, `g` and `h` of each, are added up
 module _ {A : Type 0} (f : A → A) (g h : A → ℕ) where
@@ -46,7 +46,7 @@ module _ {A : Type 0} (f : A → A) (g h : A → ℕ) where
 pub record Replied (x : ResponseNeeded) (len : ℕ) (r r′ : List ℕ) : Type 0 where
   pub reply : replyIn r′ ≡ x
   pub name : getD r′ 0 0 ≡ getD r 0 0
-  pub kind : getD r′ 1 0 ≡ getD r 1 0
+  pub service : getD r′ 1 0 ≡ getD r 1 0
   pub location : getD r′ 2 0 ≡ getD r 2 0
   pub answer : getD r′ 3 0 ≡ len
 
@@ -66,14 +66,14 @@ pub record Answered (t q q′ : List ℕ) : Type 0 where
 
 pub record NewNumbers (n k l : ℕ) (r : List ℕ) : Type 0 where
   pub name : getD r 0 0 ≡ n
-  pub kind : getD r 1 0 ≡ k
+  pub service : getD r 1 0 ≡ k
   pub location : getD r 2 0 ≡ l
   pub answer : getD r 3 0 ≡ 0
   pub reply : replyIn r ≡ None
 
 pub record NewTexts (n k l q : List ℕ) : Type 0 where
   pub name : textIn (length n) 0 nameMax q ≡ n
-  pub kind : textIn (length k) kindPlace typeMax q ≡ k
+  pub service : textIn (length k) servicePlace typeMax q ≡ k
   pub location : textIn (length l) locationPlace locationMax q ≡ l
 
 -- ---- a row of a link replaced, and the first n rows after a change of the links
@@ -87,7 +87,7 @@ pub record LinksAfter (n : ℕ) (links : List ℕ) (l : List Link) : Type 0 wher
   pub few : n ≤ linksMax
   pub rows : linkRows n links ≡ l
 
--- ---- what a search opens: a reply to its sender that answers in the target; `all` tells whether it asks for all types, and is answered in each name's own
+-- ---- what a search opens: a reply to its sender that answers in the target; `all` notifies whether it asks for all types, and is answered in each name's own
 pub record Opening (target : Text) (due : ℕ) (sender : Endpoint) (receiver : ℕ) (all : Bool) (a : ActiveAdvertisement) : Type 0 where
   pub every : all ≡ equal target ssdpAll
   pub reply : a .«response_needed» ≡ Unicast due sender receiver

@@ -30,8 +30,8 @@ namesOf h c = record {
 }
 
 -- the refusal of a call on what is held
-unfoldable pub turned : Held → Call → ℕ
-turned h c = refusal (h .context) (namesOf h c) c
+unfoldable pub refusalOf : Held → Call → ℕ
+refusalOf h c = refusal (h .context) (namesOf h c) c
 
 -- poll: the least of the salvo instant and every wait's
 unfoldable pub poll : Held → ℕ
@@ -39,45 +39,45 @@ poll h = soonest (h .context .timer .«next_salvo») (h .advertisements)
 
 -- bit k is set when subscription k, as the search, matches the type; the number told is the count of those that do
 unfoldable pub maskOf : List Text → Text → ℕ
-maskOf [] kind = 0
-maskOf (s ∷ ss) kind = one (targetMatch s kind) + 2 * maskOf ss kind
+maskOf [] service = 0
+maskOf (s ∷ ss) service = one (targetMatch s service) + 2 * maskOf ss service
 
 unfoldable pub toldOf : List Text → Text → ℕ
-toldOf [] kind = 0
-toldOf (s ∷ ss) kind = one (targetMatch s kind) + toldOf ss kind
+toldOf [] service = 0
+toldOf (s ∷ ss) service = one (targetMatch s service) + toldOf ss service
 
--- whom a call tells, and the leave outcome, which is answered for a link that was held
-pub record Told : Type 0 where
+-- whom a call notifies, and the leave outcome, which is answered for a link that was held
+pub record Notified : Type 0 where
   pub mask : ℕ
   pub number : ℕ
   pub leave : ℕ
 
-abbrev pub tellsNobody : Told
-tellsNobody = record { mask = 0; number = 0; leave = 0 }
+abbrev pub notifiesNobody : Notified
+notifiesNobody = record { mask = 0; number = 0; leave = 0 }
 
-abbrev pub tellsAbout : List Text → Text → Told
-tellsAbout subscriptions kind = record { mask = maskOf subscriptions kind; number = toldOf subscriptions kind; leave = 0 }
+abbrev pub notifiesAbout : List Text → Text → Notified
+notifiesAbout subscriptions service = record { mask = maskOf subscriptions service; number = toldOf subscriptions service; leave = 0 }
 
--- subscribers are told of the NT or ST of a notify or response; a search tells nobody
-abbrev pub tellsOf : List Text → List ℕ → Option Message → Told
-tellsOf subscriptions s none = tellsNobody
-tellsOf subscriptions s (some (NotifyAlive nt usn l)) = tellsAbout subscriptions (fieldAt s nt)
-tellsOf subscriptions s (some (NotifyByeBye nt usn)) = tellsAbout subscriptions (fieldAt s nt)
-tellsOf subscriptions s (some (Search st mx)) = tellsNobody
-tellsOf subscriptions s (some (Response st usn l)) = tellsAbout subscriptions (fieldAt s st)
+-- subscribers are told of the NT or ST of a notify or response; a search notifies nobody
+abbrev pub notifiesOf : List Text → List ℕ → Option Message → Notified
+notifiesOf subscriptions s none = notifiesNobody
+notifiesOf subscriptions s (some (NotifyAlive nt usn l)) = notifiesAbout subscriptions (fieldAt s nt)
+notifiesOf subscriptions s (some (NotifyByeBye nt usn)) = notifiesAbout subscriptions (fieldAt s nt)
+notifiesOf subscriptions s (some (Search st mx)) = notifiesNobody
+notifiesOf subscriptions s (some (Response st usn l)) = notifiesAbout subscriptions (fieldAt s st)
 
-unfoldable pub tells : Context → Call → Told
-tells x (NewLink index flags outcome room) = tellsNobody
-tells x (DeletedLink index outcome) = record { mask = 0; number = 0; leave = cond (known byIndex index (x .links)) outcome 0 }
-tells x (NewAddress index address room) = tellsNobody
-tells x (DeletedAddress index address) = tellsNobody
-tells x (Subscribe kind room) = tellsNobody
-tells x (Advertise name kind location room) = tellsNobody
-tells x (Deadvertise name room) = tellsNobody
-tells x (Refresh room) = tellsNobody
-tells x (Datagram time sender receiver s) = tellsOf (x .subscriptions) s (parsed s .message)
-tells x (Timeout time room) = tellsNobody
-tells x (ResetTimer time) = tellsNobody
+unfoldable pub notifies : Context → Call → Notified
+notifies x (NewLink index flags outcome room) = notifiesNobody
+notifies x (DeletedLink index outcome) = record { mask = 0; number = 0; leave = cond (known byIndex index (x .links)) outcome 0 }
+notifies x (NewAddress index address room) = notifiesNobody
+notifies x (DeletedAddress index address) = notifiesNobody
+notifies x (Subscribe service room) = notifiesNobody
+notifies x (Advertise name service location room) = notifiesNobody
+notifies x (Deadvertise name room) = notifiesNobody
+notifies x (Refresh room) = notifiesNobody
+notifies x (Datagram time sender receiver s) = notifiesOf (x .subscriptions) s (parsed s .message)
+notifies x (Timeout time room) = notifiesNobody
+notifies x (ResetTimer time) = notifiesNobody
 
 -- what a call leaves held and sends, and what it answers
 pub record Step : Type 0 where
@@ -85,7 +85,7 @@ pub record Step : Type 0 where
   pub sent : List Record
   pub answer : Answer
 
-abbrev pub answerWith : ℕ → ℕ → Counts → Held → Told → Answer
+abbrev pub answerWith : ℕ → ℕ → Counts → Held → Notified → Answer
 answerWith number count c after t = record {
   refusal = number;
   records = count;
@@ -103,7 +103,7 @@ answerWith number count c after t = record {
 
 -- refused: nothing sent, the waiting and poll of the untouched engine, and 0 for all else
 abbrev pub refusedBy : ℕ → Held → Step
-refusedBy number h = record { after = h; sent = []; answer = answerWith number 0 zeros h tellsNobody }
+refusedBy number h = record { after = h; sent = []; answer = answerWith number 0 zeros h notifiesNobody }
 
 unfoldable pub accepted : Held → Call → Step
 accepted h c =
@@ -113,7 +113,7 @@ accepted h c =
     record {
       after = after;
       sent = sent;
-      answer = answerWith 0 (length sent) (r .counts) after (tells (h .context) c);
+      answer = answerWith 0 (length sent) (r .counts) after (notifies (h .context) c);
     }
 
 abbrev pub unless : ℕ → Held → Step → Step
@@ -121,9 +121,9 @@ unless zero h s = s
 unless (suc k) h s = refusedBy (suc k) h
 
 unfoldable pub step : Held → Call → Step
-step h c = unless (turned h c) h (accepted h c)
+step h c = unless (refusalOf h c) h (accepted h c)
 
 -- and `new`: a refused one gives an engine with that seed at time 0
 abbrev pub newStep : ℕ → ℕ → ℕ → Step
-newStep zero seed time = record { after = fresh seed time; sent = []; answer = answerWith 0 0 zeros (fresh seed time) tellsNobody }
+newStep zero seed time = record { after = fresh seed time; sent = []; answer = answerWith 0 0 zeros (fresh seed time) notifiesNobody }
 newStep (suc k) seed time = refusedBy (suc k) (fresh seed 0)

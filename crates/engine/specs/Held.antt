@@ -25,7 +25,7 @@ pub record Link : Type 0 where
 -- 'Engine and ledger': an advertisement holds its waiting reply; `answer` is the type of the reply to a lone searcher
 pub record Advertisement : Type 0 where
   pub name : Text
-  pub kind : Text
+  pub service : Text
   pub location : Text
   pub needed : ResponseNeeded
   pub answer : Text

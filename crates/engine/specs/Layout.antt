@@ -15,29 +15,29 @@ abbrev pub group : Endpoint
 group = record { address = groupAddress; port = groupPort }
 
 abbrev pub sourceOf : Record → ℕ
-sourceOf (SearchFrom source kind) = source
-sourceOf (NotifyFrom source kind name location) = source
-sourceOf (ByeByeFrom source kind name) = source
-sourceOf (ResponseFrom source to kind name location) = source
+sourceOf (SearchFrom source service) = source
+sourceOf (NotifyFrom source service name location) = source
+sourceOf (ByeByeFrom source service name) = source
+sourceOf (ResponseFrom source to service name location) = source
 
 abbrev pub destinationOf : Record → Endpoint
-destinationOf (SearchFrom source kind) = group
-destinationOf (NotifyFrom source kind name location) = group
-destinationOf (ByeByeFrom source kind name) = group
-destinationOf (ResponseFrom source to kind name location) = to
+destinationOf (SearchFrom source service) = group
+destinationOf (NotifyFrom source service name location) = group
+destinationOf (ByeByeFrom source service name) = group
+destinationOf (ResponseFrom source to service name location) = to
 
 -- the texts of a record's message with their largest sizes, and the message that they make; the location names the source address
 abbrev pub textsOf : Record → List Bounded
-textsOf (SearchFrom source kind) = searchTexts kind
-textsOf (NotifyFrom source kind name location) = locatedTexts kind name (rewritten location source)
-textsOf (ByeByeFrom source kind name) = byebyeTexts kind name
-textsOf (ResponseFrom source to kind name location) = locatedTexts kind name (rewritten location source)
+textsOf (SearchFrom source service) = searchTexts service
+textsOf (NotifyFrom source service name location) = locatedTexts service name (rewritten location source)
+textsOf (ByeByeFrom source service name) = byebyeTexts service name
+textsOf (ResponseFrom source to service name location) = locatedTexts service name (rewritten location source)
 
 abbrev pub textOf : Record → Text
-textOf (SearchFrom source kind) = searchText kind
-textOf (NotifyFrom source kind name location) = notifyText kind name (rewritten location source)
-textOf (ByeByeFrom source kind name) = byebyeText kind name
-textOf (ResponseFrom source to kind name location) = responseText kind name (rewritten location source)
+textOf (SearchFrom source service) = searchText service
+textOf (NotifyFrom source service name location) = notifyText service name (rewritten location source)
+textOf (ByeByeFrom source service name) = byebyeText service name
+textOf (ResponseFrom source to service name location) = responseText service name (rewritten location source)
 
 -- the message of a record. Texts that the build functions refuse (3, 4) leave none: an engine that began with `new` holds no such texts.
 unfoldable pub messageOf : Record → Text

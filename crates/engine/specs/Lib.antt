@@ -21,8 +21,8 @@ pub mod Passes
 pub mod Reading
 pub mod Refusals
 pub mod Engine
-pub mod Tallies
-pub mod Telling
+pub mod Outcomes
+pub mod Notifying
 pub mod Rows
 pub mod Shifts
 pub mod Wanted

@@ -78,9 +78,9 @@ contextAfter x (NewLink index flags outcome room) = withLinks x (linkNews index 
 contextAfter x (DeletedLink index outcome) = withLinks x (leave byIndex index (x .links))
 contextAfter x (NewAddress index address room) = withLinks x (addressNews index address (x .links))
 contextAfter x (DeletedAddress index address) = withLinks x (addressGone index address (x .links))
-contextAfter x (Subscribe kind room) =
-    record { seed = x .seed; timer = x .timer; links = x .links; subscriptions = x .subscriptions ++ (kind ∷ []) }
-contextAfter x (Advertise name kind location room) = x
+contextAfter x (Subscribe service room) =
+    record { seed = x .seed; timer = x .timer; links = x .links; subscriptions = x .subscriptions ++ (service ∷ []) }
+contextAfter x (Advertise name service location room) = x
 contextAfter x (Deadvertise name room) = x
 contextAfter x (Refresh room) = x
 contextAfter x (Datagram time sender receiver s) = x

@@ -6,7 +6,7 @@ use mathlib.Core.List.{List}
 use Rattle.engine.specs.Calls.{Call}
 use Rattle.engine.specs.Layout.{written}
 use Rattle.engine.specs.Refusals.{newRefusal}
-use Rattle.engine.specs.Engine.{turned, step, newStep}
+use Rattle.engine.specs.Engine.{refusalOf, step, newStep}
 use Rattle.engine.specs.Arrays.{Engine, held}
 use Rattle.engine.specs.declared.answer.Answer.{Answer}
 
@@ -22,7 +22,7 @@ pub record Answers (e : Engine) (c : Call) (outbox outbox′ : List ℕ) (r : An
   pub answer : r .answer ≡ step (held e) c .answer
   pub engine : held (r .engine) ≡ step (held e) c .after
   pub sent : outbox′ ≡ written (step (held e) c .sent) outbox
-  pub untouched : (turned (held e) c ≡ 0 → ⊥) → r .engine ≡ e
+  pub untouched : (refusalOf (held e) c ≡ 0 → ⊥) → r .engine ≡ e
 
 -- and `new`: a refused one leaves an engine with that seed at time 0
 pub record Begins (seed time : ℕ) (r : Answered) : Type 0 where

@@ -11,7 +11,7 @@ typeOf (NotifyByeBye nt usn) = nt
 typeOf (Search st mx) = st
 typeOf (Response st usn l) = st
 
--- every kind but a search
+-- every service but a search
 abbrev pub isNotice : Message → Bool
 isNotice (NotifyAlive nt usn l) = true
 isNotice (NotifyByeBye nt usn) = true

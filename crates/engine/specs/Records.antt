@@ -38,17 +38,17 @@ unfoldable pub searchesOf : List Text → List Text
 searchesOf ts = cond (anyAll ts) (ssdpAll ∷ []) ts
 
 abbrev pub notify : Advertisement → ℕ → Record
-notify a source = NotifyFrom source (a .kind) (a .name) (a .location)
+notify a source = NotifyFrom source (a .service) (a .name) (a .location)
 
 -- one message from each address
 abbrev pub searchOn : List ℕ → Text → List Record
-searchOn up kind = map (λ source. SearchFrom source kind) up
+searchOn up service = map (λ source. SearchFrom source service) up
 
 abbrev pub notifyOn : List ℕ → Advertisement → List Record
 notifyOn up a = map (notify a) up
 
 abbrev pub byebyeOn : List ℕ → Advertisement → List Record
-byebyeOn up a = map (λ source. ByeByeFrom source (a .kind) (a .name)) up
+byebyeOn up a = map (λ source. ByeByeFrom source (a .service) (a .name)) up
 
 -- all advertisements, then the searches, from each of these addresses
 abbrev pub refreshOn : List ℕ → List Text → List Advertisement → List Record
@@ -102,8 +102,8 @@ records x as′ (DeletedLink index outcome) = []
 records x as′ (NewAddress index address room) =
     cond (stores index address (x .links) && anyUp (linkAt index (x .links))) (addressRecords x as′ (addressOf address)) []
 records x as′ (DeletedAddress index address) = []
-records x as′ (Subscribe kind room) = searchOn (upAddresses (x .links)) kind
-records x as′ (Advertise name kind location room) = map (λ source. NotifyFrom source kind name location) (upAddresses (x .links))
+records x as′ (Subscribe service room) = searchOn (upAddresses (x .links)) service
+records x as′ (Advertise name service location room) = map (λ source. NotifyFrom source service name location) (upAddresses (x .links))
 records x as′ (Deadvertise name room) =
     flat (byebyeOn (upAddresses (x .links))) (entryOf advertised name as′)
 records x as′ (Refresh room) = refreshRecords x as′

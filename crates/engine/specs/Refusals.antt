@@ -110,16 +110,16 @@ checks x n (NewAddress index address room) =
     ∷ (stores index address (x .links) && leb addressesMax (length (addressesOf (linkAt index (x .links))))) refuses linksFull
     ∷ []
 checks x n (DeletedAddress index address) = eqb index 0 refuses indexZero ∷ not (isV4 address || isV6 address) refuses addressLength ∷ []
-checks x n (Subscribe kind room) =
+checks x n (Subscribe service room) =
     ltb room (n .need) refuses outboxShort
-    ∷ over typeMax kind refuses textOverSize
-    ∷ bad kind refuses textNotGood
+    ∷ over typeMax service refuses textOverSize
+    ∷ bad service refuses textNotGood
     ∷ leb subscriptionsMax (length (x .subscriptions)) refuses tableFull
     ∷ []
-checks x n (Advertise name kind location room) =
+checks x n (Advertise name service location room) =
     ltb room (n .need) refuses outboxShort
-    ∷ (over nameMax name || over typeMax kind || over locationMax location) refuses textOverSize
-    ∷ (bad name || bad kind || bad location) refuses textNotGood
+    ∷ (over nameMax name || over typeMax service || over locationMax location) refuses textOverSize
+    ∷ (bad name || bad service || bad location) refuses textNotGood
     ∷ (not (n .holds name) && leb advertisementsMax (n .count)) refuses tableFull
     ∷ []
 checks x n (Deadvertise name room) = ltb room (n .need) refuses outboxShort ∷ []

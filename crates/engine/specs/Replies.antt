@@ -65,24 +65,24 @@ isNone (Unicast due sender receiver) = false
 
 -- the answer type: the target, or the advertised type for `ssdp:all`
 abbrev pub answerType : Text → Text → Text
-answerType target kind = cond (equal target ssdpAll) kind target
+answerType target service = cond (equal target ssdpAll) service target
 
 abbrev pub askedAnswer : Bool → Query → Text → ResponseNeeded → Text → Text
-askedAnswer false q kind n answer = answer
-askedAnswer true q kind None answer = answerType (q .target) kind
-askedAnswer true q kind (Multicast d) answer = answer
-askedAnswer true q kind (Unicast d sender receiver) answer = answer
+askedAnswer false q service n answer = answer
+askedAnswer true q service None answer = answerType (q .target) service
+askedAnswer true q service (Multicast d) answer = answer
+askedAnswer true q service (Unicast d sender receiver) answer = answer
 
 abbrev pub hits : Query → Advertisement → Bool
-hits q a = targetMatch (q .target) (a .kind)
+hits q a = targetMatch (q .target) (a .service)
 
 unfoldable pub asked : ℕ → Query → Advertisement → Advertisement
 asked due q a = record {
   name = a .name;
-  kind = a .kind;
+  service = a .service;
   location = a .location;
   needed = askedNeed (hits q a) due q (a .needed);
-  answer = askedAnswer (hits q a) q (a .kind) (a .needed) (a .answer);
+  answer = askedAnswer (hits q a) q (a .service) (a .needed) (a .answer);
 }
 
 unfoldable pub matchedBy : Query → Advertisement → ℕ
@@ -99,7 +99,7 @@ servedNeed false n = n
 unfoldable pub served : ℕ → Advertisement → Advertisement
 served time a = record {
   name = a .name;
-  kind = a .kind;
+  service = a .service;
   location = a .location;
   needed = servedNeed (isDue time (a .needed)) (a .needed);
   answer = a .answer;
@@ -130,11 +130,11 @@ abbrev pub drops : ℕ → Counts
 drops n = record { matched = 0; joined = 0; alone = 0; group = 0; dropped = n }
 
 abbrev pub newcomer : Text → Text → Text → Advertisement
-newcomer name kind location = record { name = name; kind = kind; location = location; needed = None; answer = [] }
+newcomer name service location = record { name = name; service = service; location = location; needed = None; answer = [] }
 
 unfoldable pub result : ℕ → List Advertisement → Act → Result
-result seed as′ (Enters name kind location) =
-    record { advertisements = enter advertised (newcomer name kind location) as′; counts = drops (waiting (entryOf advertised name as′)) }
+result seed as′ (Enters name service location) =
+    record { advertisements = enter advertised (newcomer name service location) as′; counts = drops (waiting (entryOf advertised name as′)) }
 result seed as′ (Leaves name) =
     record { advertisements = leave advertised name as′; counts = drops (waiting (entryOf advertised name as′)) }
 result seed as′ (Asks q) = record {

@@ -25,17 +25,17 @@ fn announce(
     k: usize,
     source: u32,
     what: Announcement,
-    kind: &[u8],
+    service: &[u8],
     name: &[u8],
     location: &[u8],
 ) -> usize
     requires { ⌜ (recordSize * (k + 1) ≤ length (now outbox)) × (length (now location) ≤ locationMax) ⌝ }
-    ensures { λ r. ⌜ Sends (now (outbox .entry)) k (announced what (now (kind .entry)) (now (name .entry)) (now (location .entry)) source ∷ []) (now (outbox .exit)) r ⌝ }
+    ensures { λ r. ⌜ Sends (now (outbox .entry)) k (announced what (now (service .entry)) (now (name .entry)) (now (location .entry)) source ∷ []) (now (outbox .exit)) r ⌝ }
 {
     match what {
-        Announcement::Search => search_on(outbox, k, source, kind),
-        Announcement::Alive => notify_on(outbox, k, source, kind, name, location),
-        Announcement::ByeBye => byebye_on(outbox, k, source, kind, name),
+        Announcement::Search => search_on(outbox, k, source, service),
+        Announcement::Alive => notify_on(outbox, k, source, service, name, location),
+        Announcement::ByeBye => byebye_on(outbox, k, source, service, name),
     }
 }
 
@@ -46,18 +46,18 @@ pub(crate) fn announce_on_all(
     up: [u32; SOURCES],
     n: usize,
     what: Announcement,
-    kind: &[u8],
+    service: &[u8],
     name: &[u8],
     location: &[u8],
 ) -> usize
-    requires { ⌜ Room (now outbox) k (announcedOn (take n up) what (now kind) (now name) (now location)) × (length (now location) ≤ locationMax) ⌝ }
-    ensures { λ r. ⌜ Sends (now (outbox .entry)) k (announcedOn (take n up) what (now (kind .entry)) (now (name .entry)) (now (location .entry))) (now (outbox .exit)) r ⌝ }
+    requires { ⌜ Room (now outbox) k (announcedOn (take n up) what (now service) (now name) (now location)) × (length (now location) ≤ locationMax) ⌝ }
+    ensures { λ r. ⌜ Sends (now (outbox .entry)) k (announcedOn (take n up) what (now (service .entry)) (now (name .entry)) (now (location .entry))) (now (outbox .exit)) r ⌝ }
 {
     let m = least(n, SOURCES);
     let mut at = k;
     let mut i = 0;
     while i < m {
-        at = announce(outbox, at, up[i], what, kind, name, location);
+        at = announce(outbox, at, up[i], what, service, name, location);
         i += 1;
     }
     at

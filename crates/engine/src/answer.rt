@@ -1,11 +1,11 @@
-// What a call answers, and what an accepted one counts and tells: document 01, 'Engine and ledger' and 'Who can be turned away'. The calls stand in calls.rt.
+// What a call answers, and what an accepted one counts and notifies: document 01, 'Engine and ledger' and 'Who can be turned away'. The calls stand in calls.rt.
 use crate::subscription::Subscribers;
 ghost use mathlib.Core.Path.{_≡_};
 ghost use mathlib.Core.Bool.{cond};
 ghost use Rattle.engine.specs.Replies.{drops};
 ghost use Rattle.engine.specs.Calls.{zeros};
-ghost use Rattle.engine.specs.Engine.{tellsNobody};
-ghost use Rattle.engine.specs.Tallies.{counted, toldBy, leaves, sends, asks, tellsMask};
+ghost use Rattle.engine.specs.Engine.{notifiesNobody};
+ghost use Rattle.engine.specs.Outcomes.{counted, notifiedBy, leaves, sends, asks, notifiesMask};
 
 // What a call answers: its refusal number (0: accepted), the records written, the five counts of the reply ledger that it adds,
 // the replies waiting and the instant to be polled at afterwards, the mask of subscriptions to tell and their number, and the leave outcome.
@@ -25,8 +25,8 @@ pub struct Answer {
     pub leave: u32,
 }
 
-// What an accepted call counts, and whom it tells.
-pub struct Tally {
+// What an accepted call counts, and whom it notifies.
+pub struct Outcome {
     pub matched: usize,
     pub joined: usize,
     pub alone: usize,
@@ -37,11 +37,11 @@ pub struct Tally {
     pub leave: u32,
 }
 
-// A call that counts nothing and tells nobody.
-pub(crate) fn nothing() -> Tally
-    ensures { λ r. ⌜ (counted r ≡ zeros) × (toldBy r ≡ tellsNobody) ⌝ }
+// A call that counts nothing and notifies nobody.
+pub(crate) fn nothing() -> Outcome
+    ensures { λ r. ⌜ (counted r ≡ zeros) × (notifiedBy r ≡ notifiesNobody) ⌝ }
 {
-    Tally {
+    Outcome {
         matched: 0,
         joined: 0,
         alone: 0,
@@ -54,11 +54,11 @@ pub(crate) fn nothing() -> Tally
 }
 
 // A link was deleted: its leave outcome, if it was held.
-pub(crate) fn leaving(held: bool, outcome: u32) -> Tally
-    ensures { λ r. ⌜ (counted r ≡ zeros) × (toldBy r ≡ leaves (cond held outcome 0)) ⌝ }
+pub(crate) fn leaving(held: bool, outcome: u32) -> Outcome
+    ensures { λ r. ⌜ (counted r ≡ zeros) × (notifiedBy r ≡ leaves (cond held outcome 0)) ⌝ }
 {
     let leave = if held { outcome } else { 0 };
-    Tally {
+    Outcome {
         matched: 0,
         joined: 0,
         alone: 0,
@@ -71,10 +71,10 @@ pub(crate) fn leaving(held: bool, outcome: u32) -> Tally
 }
 
 // A name was replaced or has left, and its waiting reply with it.
-pub(crate) fn dropping(dropped: usize) -> Tally
-    ensures { λ r. ⌜ (counted r ≡ drops dropped) × (toldBy r ≡ tellsNobody) ⌝ }
+pub(crate) fn dropping(dropped: usize) -> Outcome
+    ensures { λ r. ⌜ (counted r ≡ drops dropped) × (notifiedBy r ≡ notifiesNobody) ⌝ }
 {
-    Tally {
+    Outcome {
         matched: 0,
         joined: 0,
         alone: 0,
@@ -87,10 +87,10 @@ pub(crate) fn dropping(dropped: usize) -> Tally
 }
 
 // Replies were sent, alone and to the group.
-pub(crate) fn sending(alone: usize, group: usize) -> Tally
-    ensures { λ r. ⌜ (counted r ≡ sends alone group) × (toldBy r ≡ tellsNobody) ⌝ }
+pub(crate) fn sending(alone: usize, group: usize) -> Outcome
+    ensures { λ r. ⌜ (counted r ≡ sends alone group) × (notifiedBy r ≡ notifiesNobody) ⌝ }
 {
-    Tally {
+    Outcome {
         matched: 0,
         joined: 0,
         alone: alone,
@@ -103,10 +103,10 @@ pub(crate) fn sending(alone: usize, group: usize) -> Tally
 }
 
 // A search matched, and joined replies that wait.
-pub(crate) fn asking(matched: usize, joined: usize) -> Tally
-    ensures { λ r. ⌜ (counted r ≡ asks matched joined) × (toldBy r ≡ tellsNobody) ⌝ }
+pub(crate) fn asking(matched: usize, joined: usize) -> Outcome
+    ensures { λ r. ⌜ (counted r ≡ asks matched joined) × (notifiedBy r ≡ notifiesNobody) ⌝ }
 {
-    Tally {
+    Outcome {
         matched: matched,
         joined: joined,
         alone: 0,
@@ -119,10 +119,10 @@ pub(crate) fn asking(matched: usize, joined: usize) -> Tally
 }
 
 // Subscriptions are told.
-pub(crate) fn telling(s: Subscribers) -> Tally
-    ensures { λ r. ⌜ (counted r ≡ zeros) × (toldBy r ≡ tellsMask (s .mask) (s .told)) ⌝ }
+pub(crate) fn notifying(s: Subscribers) -> Outcome
+    ensures { λ r. ⌜ (counted r ≡ zeros) × (notifiedBy r ≡ notifiesMask (s .mask) (s .told)) ⌝ }
 {
-    Tally {
+    Outcome {
         matched: 0,
         joined: 0,
         alone: 0,

@@ -3,13 +3,13 @@
 use crate::address;
 use crate::advertisement::Endpoint;
 use crate::answer::Answer;
-use crate::answer::Tally;
+use crate::answer::Outcome;
 use crate::answer::asking;
 use crate::answer::dropping;
 use crate::answer::leaving;
 use crate::answer::nothing;
+use crate::answer::notifying;
 use crate::answer::sending;
-use crate::answer::telling;
 use crate::flags::Flags;
 use crate::head::begin;
 use crate::head::rolled;
@@ -63,15 +63,15 @@ ghost use Rattle.engine.specs.Replies.{waits, newcomer};
 ghost use Rattle.engine.specs.Reading.{isNotice};
 ghost use Rattle.engine.specs.Calls.{NewLink, DeletedLink, NewAddress, DeletedAddress, Subscribe, Advertise, Deadvertise, Refresh, Datagram, Timeout, ResetTimer};
 ghost use Rattle.engine.specs.Engine.{refusedBy, answerWith};
-ghost use Rattle.engine.specs.Tallies.{counted, toldBy};
+ghost use Rattle.engine.specs.Outcomes.{counted, notifiedBy};
 ghost use Rattle.engine.specs.Arrays.{headPlaces, numbersSize, linksIn, entryAt, replyAt, nameCount, namesIn, LinkArrays, SearchArrays, NameArrays, engine, held};
 ghost use Rattle.engine.specs.Changes.{NamesAfter};
 ghost use Rattle.engine.specs.Promises.{answered, Answers, Begins};
 
 // The answer of an accepted call that leaves these arrays.
-fn accepted(head: &[u64], numbers: &[u64], records: usize, t: Tally) -> Answer
+fn accepted(head: &[u64], numbers: &[u64], records: usize, t: Outcome) -> Answer
     requires { ⌜ (length (now head) ≡ headPlaces) × (length (now numbers) ≡ numbersSize) ⌝ }
-    ensures { λ r. ⌜ ((links searches texts : List ℕ) → r ≡ answerWith 0 records (counted t) (held (engine (now (head .entry)) links searches (now (numbers .entry)) texts)) (toldBy t)) ⌝ }
+    ensures { λ r. ⌜ ((links searches texts : List ℕ) → r ≡ answerWith 0 records (counted t) (held (engine (now (head .entry)) links searches (now (numbers .entry)) texts)) (notifiedBy t)) ⌝ }
 {
     let timer = timer_in(head);
     let waits = waits_in(head, numbers, timer.next_salvo);
@@ -173,20 +173,20 @@ pub fn subscribe(
     links: &Links,
     searches: &mut Searches,
     numbers: &Numbers,
-    kind: &[u8],
+    service: &[u8],
     outbox: &mut [u8],
 ) -> Answer
-    ensures { λ r. ⌜ ((texts : List ℕ) → Answers (engine (now (head .entry)) (now (links .entry)) (now (searches .entry)) (now (numbers .entry)) texts) (Subscribe (now (kind .entry)) (length (now (outbox .entry)))) (now (outbox .entry)) (now (outbox .exit)) (answered (engine (now (head .exit)) (now (links .entry)) (now (searches .exit)) (now (numbers .entry)) texts) r)) ⌝ }
+    ensures { λ r. ⌜ ((texts : List ℕ) → Answers (engine (now (head .entry)) (now (links .entry)) (now (searches .entry)) (now (numbers .entry)) texts) (Subscribe (now (service .entry)) (length (now (outbox .entry)))) (now (outbox .entry)) (now (outbox .exit)) (answered (engine (now (head .exit)) (now (links .entry)) (now (searches .exit)) (now (numbers .entry)) texts) r)) ⌝ }
 {
     let n = subscription::count_of(head);
-    let number = refusals::of_subscribe(n, outbox.len(), kind);
+    let number = refusals::of_subscribe(n, outbox.len(), service);
     if number != 0 {
         return refused(head, numbers, number);
     }
     let up = of_up_links(head, links);
     let from = up.addresses;
-    let k = send::send_search(outbox, from, up.count, kind);
-    subscription::push(searches, n, kind);
+    let k = send::send_search(outbox, from, up.count, service);
+    subscription::push(searches, n, service);
     set_count(head, SEARCH_COUNT, n + 1);
     accepted(head, numbers, k, nothing())
 }
@@ -206,7 +206,7 @@ pub fn deleted_link(
         return refused(head, numbers, number);
     }
     let spot = links::spot_of(head, links, index);
-    let n = links::left(head, links, index);
+    let n = links::removed(head, links, index);
     set_count(head, LINK_COUNT, n);
     accepted(head, numbers, 0, leaving(spot.known, outcome))
 }
@@ -225,7 +225,7 @@ pub fn deleted_address(
     if number != 0 {
         return refused(head, numbers, number);
     }
-    let held = links::held_at(head, links, index);
+    let held = links::lookup(head, links, index);
     let remaining = news::address_gone(head, links, held, address);
     set_count(head, LINK_COUNT, remaining);
     accepted(head, numbers, 0, nothing())
@@ -246,7 +246,7 @@ pub fn new_link(
 ) -> Answer
     ensures { λ r. ⌜ Answers (engine (now (head .entry)) (now (links .entry)) (now (searches .entry)) (now (numbers .entry)) (now (texts .entry))) (NewLink index flags outcome (length (now (outbox .entry)))) (now (outbox .entry)) (now (outbox .exit)) (answered (engine (now (head .exit)) (now (links .exit)) (now (searches .entry)) (now (numbers .entry)) (now (texts .entry))) r) ⌝ }
 {
-    let held = links::held_at(head, links, index);
+    let held = links::lookup(head, links, index);
     let number = refusals::of_new_link(
         Flags(flags).is_multicast(),
         held.known,
@@ -271,7 +271,7 @@ pub fn new_link(
         numbers,
         texts,
     );
-    let n = news::link_told(head, links, held, flags);
+    let n = news::link_stored(head, links, held, flags);
     set_count(head, LINK_COUNT, n);
     accepted(head, numbers, k, nothing())
 }
@@ -289,7 +289,7 @@ pub fn new_address(
 ) -> Answer
     ensures { λ r. ⌜ Answers (engine (now (head .entry)) (now (links .entry)) (now (searches .entry)) (now (numbers .entry)) (now (texts .entry))) (NewAddress index (now (address .entry)) (length (now (outbox .entry)))) (now (outbox .entry)) (now (outbox .exit)) (answered (engine (now (head .exit)) (now (links .exit)) (now (searches .entry)) (now (numbers .entry)) (now (texts .entry))) r) ⌝ }
 {
-    let held = links::held_at(head, links, index);
+    let held = links::lookup(head, links, index);
     let link = held.link;
     let storing = news::is_stored(held, address);
     let count = address::count_of(link);
@@ -307,7 +307,7 @@ pub fn new_address(
         numbers,
         texts,
     );
-    let known = news::address_told(head, links, held, address);
+    let known = news::address_stored(head, links, held, address);
     set_count(head, LINK_COUNT, known);
     accepted(head, numbers, k, nothing())
 }
@@ -331,19 +331,19 @@ fn enter(
     texts: &mut [u8],
     spot: Spot,
     name: &[u8],
-    kind: &[u8],
+    service: &[u8],
     location: &[u8],
 ) -> usize
-    requires { ⌜ (length (now head) ≡ headPlaces) × NameArrays (now numbers) (now texts) × Spotted advertised (now name) (namesIn (now head) (now numbers) (now texts)) spot × (length (now name) ≤ nameMax) × (length (now kind) ≤ typeMax) × (length (now location) ≤ locationMax) × ((not (known advertised (now name) (namesIn (now head) (now numbers) (now texts))) && leb advertisementsMax (length (namesIn (now head) (now numbers) (now texts)))) ≡ false) ⌝ }
-    ensures { λ r. ⌜ NamesAfter r (now (numbers .exit)) (now (texts .exit)) (enter advertised (newcomer (now (name .entry)) (now (kind .entry)) (now (location .entry))) (namesIn (now (head .entry)) (now (numbers .entry)) (now (texts .entry)))) ⌝ }
+    requires { ⌜ (length (now head) ≡ headPlaces) × NameArrays (now numbers) (now texts) × Spotted advertised (now name) (namesIn (now head) (now numbers) (now texts)) spot × (length (now name) ≤ nameMax) × (length (now service) ≤ typeMax) × (length (now location) ≤ locationMax) × ((not (known advertised (now name) (namesIn (now head) (now numbers) (now texts))) && leb advertisementsMax (length (namesIn (now head) (now numbers) (now texts)))) ≡ false) ⌝ }
+    ensures { λ r. ⌜ NamesAfter r (now (numbers .exit)) (now (texts .exit)) (enter advertised (newcomer (now (name .entry)) (now (service .entry)) (now (location .entry))) (namesIn (now (head .entry)) (now (numbers .entry)) (now (texts .entry)))) ⌝ }
 {
     let n = names::count_of(head);
     let at = spot.at;
     if spot.known {
-        names::put_over(numbers, texts, n, at, name, kind, location);
+        names::put_over(numbers, texts, n, at, name, service, location);
         return n;
     }
-    names::put_in(numbers, texts, n, at, name, kind, location);
+    names::put_in(numbers, texts, n, at, name, service, location);
     n + 1
 }
 
@@ -354,23 +354,23 @@ pub fn advertise(
     numbers: &mut Numbers,
     texts: &mut Texts,
     name: &[u8],
-    kind: &[u8],
+    service: &[u8],
     location: &[u8],
     outbox: &mut [u8],
 ) -> Answer
-    ensures { λ r. ⌜ ((searches : List ℕ) → Answers (engine (now (head .entry)) (now (links .entry)) searches (now (numbers .entry)) (now (texts .entry))) (Advertise (now (name .entry)) (now (kind .entry)) (now (location .entry)) (length (now (outbox .entry)))) (now (outbox .entry)) (now (outbox .exit)) (answered (engine (now (head .exit)) (now (links .entry)) searches (now (numbers .exit)) (now (texts .exit))) r)) ⌝ }
+    ensures { λ r. ⌜ ((searches : List ℕ) → Answers (engine (now (head .entry)) (now (links .entry)) searches (now (numbers .entry)) (now (texts .entry))) (Advertise (now (name .entry)) (now (service .entry)) (now (location .entry)) (length (now (outbox .entry)))) (now (outbox .entry)) (now (outbox .exit)) (answered (engine (now (head .exit)) (now (links .entry)) searches (now (numbers .exit)) (now (texts .exit))) r)) ⌝ }
 {
     let spot = names::spot_of(head, numbers, texts, name);
     let count = names::count_of(head);
-    let number = refusals::of_advertise(spot.known, count, outbox.len(), name, kind, location);
+    let number = refusals::of_advertise(spot.known, count, outbox.len(), name, service, location);
     if number != 0 {
         return refused(head, numbers, number);
     }
     let up = of_up_links(head, links);
     let from = up.addresses;
-    let k = send::send_alive(outbox, from, up.count, kind, name, location);
+    let k = send::send_alive(outbox, from, up.count, service, name, location);
     let dropped = dropped_at(numbers, spot);
-    let n = enter(head, numbers, texts, spot, name, kind, location);
+    let n = enter(head, numbers, texts, spot, name, service, location);
     set_count(head, NAME_COUNT, n);
     accepted(head, numbers, k, dropping(dropped))
 }
@@ -523,7 +523,7 @@ fn on_notice(
     ensures { λ r. ⌜ ((links texts : List ℕ) → Answers (engine (now (head .entry)) links (now (searches .entry)) (now (numbers .entry)) texts) (Datagram time sender receiver (now (datagram .entry))) [] [] (answered (engine (now (head .entry)) links (now (searches .entry)) (now (numbers .entry)) texts) r)) ⌝ }
 {
     let told = subscription::told_of(head, searches, message::field(datagram, type_of(said)));
-    accepted(head, numbers, 0, telling(told))
+    accepted(head, numbers, 0, notifying(told))
 }
 
 // A datagram has come from `sender` to the owner's address `receiver` (for one sent to the group, an address of the link it came by). Nothing is sent: replies wait until

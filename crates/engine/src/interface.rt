@@ -11,7 +11,7 @@ pub struct Interface {
 }
 
 // A link that was looked for: whether it is held, and the link. One that is not held is down and has no addresses.
-pub struct HeldLink {
+pub struct LinkLookup {
     pub known: bool,
     pub link: Interface,
 }

@@ -4,8 +4,8 @@ use crate::clamp::count_in;
 use crate::clamp::low_32;
 use crate::clamp::number_of;
 use crate::clamp::size_of;
-use crate::interface::HeldLink;
 use crate::interface::Interface;
+use crate::interface::LinkLookup;
 use crate::shift::numbers_down;
 use crate::shift::numbers_up;
 use crate::sizes::ADDRESSES;
@@ -28,7 +28,7 @@ ghost use Rattle.engine.specs.Table.{known, enter, leave};
 ghost use Rattle.engine.specs.Slots.{insertAt, removeAt};
 ghost use Rattle.engine.specs.Spot.{Spotted};
 ghost use Rattle.engine.specs.Held.{linkOf, byIndex};
-ghost use Rattle.engine.specs.LinkTable.{LinkHeld};
+ghost use Rattle.engine.specs.LinkTable.{LinkFound};
 ghost use Rattle.engine.specs.Replies.{one};
 ghost use Rattle.engine.specs.Arrays.{headPlaces, low32, firstAddress, linkWidth, linkNumbers, linkIn, linkAtRow, linkRows, linkCount, linksIn, LinkArrays};
 ghost use Rattle.engine.specs.Changes.{LinkFilled, LinksAfter};
@@ -145,19 +145,19 @@ pub(crate) fn spot_of(head: &[u64], links: &[u64], index: u32) -> Spot
 }
 
 // The link of an index. One that is not held is down and has no addresses.
-pub(crate) fn held_at(head: &[u64], links: &[u64], index: u32) -> HeldLink
+pub(crate) fn lookup(head: &[u64], links: &[u64], index: u32) -> LinkLookup
     requires { ⌜ LinkArrays (now head) (now links) ⌝ }
-    ensures { λ r. ⌜ LinkHeld index (linksIn (now (head .entry)) (now (links .entry))) r ⌝ }
+    ensures { λ r. ⌜ LinkFound index (linksIn (now (head .entry)) (now (links .entry))) r ⌝ }
 {
     let spot = spot_of(head, links, index);
     let at = spot.at;
     if spot.known {
-        return HeldLink {
+        return LinkLookup {
             known: true,
             link: link_at(links, at),
         };
     }
-    HeldLink {
+    LinkLookup {
         known: false,
         link: Interface {
             index: index,
@@ -213,7 +213,7 @@ pub(crate) fn entered(head: &[u64], links: &mut [u64], link: Interface) -> usize
 }
 
 // The links without the one of an index. Answers how many are held then.
-pub(crate) fn left(head: &[u64], links: &mut [u64], index: u32) -> usize
+pub(crate) fn removed(head: &[u64], links: &mut [u64], index: u32) -> usize
     requires { ⌜ LinkArrays (now head) (now links) ⌝ }
     ensures { λ r. ⌜ LinksAfter r (now (links .exit)) (leave byIndex index (linksIn (now (head .entry)) (now (links .entry)))) ⌝ }
 {

@@ -86,9 +86,9 @@ pub(crate) fn name_at<'a>(numbers: &[u64], texts: &'a [u8], i: usize) -> &'a [u8
     text_in(texts, TEXTS_WIDTH * i, NAME_SIZE, len)
 }
 
-pub(crate) fn kind_at<'a>(numbers: &[u64], texts: &'a [u8], i: usize) -> &'a [u8]
+pub(crate) fn service_at<'a>(numbers: &[u64], texts: &'a [u8], i: usize) -> &'a [u8]
     requires { ⌜ (i < advertisementsMax) × NameArrays (now numbers) (now texts) ⌝ }
-    ensures { λ r. ⌜ now r ≡ entryAt i (now (numbers .entry)) (now (texts .entry)) .kind ⌝ }
+    ensures { λ r. ⌜ now r ≡ entryAt i (now (numbers .entry)) (now (texts .entry)) .service ⌝ }
 {
     let len = numbers[NUMBERS_WIDTH * i + TYPE_LENGTH];
     text_in(texts, TEXTS_WIDTH * i + TYPE_PLACE, TYPE_SIZE, len)
@@ -209,24 +209,24 @@ fn set_answer(row: &mut [u8], answer: [u8; TYPE_SIZE])
 }
 
 // The numbers of a new name, for which no reply waits.
-fn fill_numbers(row: &mut [u64], name_len: u64, kind_len: u64, location_len: u64)
+fn fill_numbers(row: &mut [u64], name_len: u64, service_len: u64, location_len: u64)
     requires { ⌜ length (now row) ≡ numbersWidth ⌝ }
-    ensures { λ _. ⌜ NewNumbers «name_len» «kind_len» «location_len» (now (row .exit)) ⌝ }
+    ensures { λ _. ⌜ NewNumbers «name_len» «service_len» «location_len» (now (row .exit)) ⌝ }
 {
     row[NAME_LENGTH] = name_len;
-    row[TYPE_LENGTH] = kind_len;
+    row[TYPE_LENGTH] = service_len;
     row[LOCATION_LENGTH] = location_len;
     row[ANSWER_LENGTH] = 0;
     row[REPLY] = 0;
 }
 
 // Its texts, which fit.
-fn fill_texts(row: &mut [u8], name: &[u8], kind: &[u8], location: &[u8])
-    requires { ⌜ (length (now row) ≡ textsWidth) × (length (now name) ≤ nameMax) × (length (now kind) ≤ typeMax) × (length (now location) ≤ locationMax) ⌝ }
-    ensures { λ _. ⌜ NewTexts (now (name .entry)) (now (kind .entry)) (now (location .entry)) (now (row .exit)) ⌝ }
+fn fill_texts(row: &mut [u8], name: &[u8], service: &[u8], location: &[u8])
+    requires { ⌜ (length (now row) ≡ textsWidth) × (length (now name) ≤ nameMax) × (length (now service) ≤ typeMax) × (length (now location) ≤ locationMax) ⌝ }
+    ensures { λ _. ⌜ NewTexts (now (name .entry)) (now (service .entry)) (now (location .entry)) (now (row .exit)) ⌝ }
 {
     put(row, 0, name);
-    put(row, TYPE_PLACE, kind);
+    put(row, TYPE_PLACE, service);
     put(row, LOCATION_PLACE, location);
 }
 
@@ -264,7 +264,7 @@ pub(crate) fn own_type_at(
     needed: ResponseNeeded,
 ) -> ActiveAdvertisement
     requires { ⌜ (i < advertisementsMax) × NameArrays (now numbers) (now texts) ⌝ }
-    ensures { λ r. ⌜ (r .«response_needed» ≡ needed) × (take (r .«answer_len») (r .answer) ≡ entryAt i (now (numbers .entry)) (now (texts .entry)) .kind) ⌝ }
+    ensures { λ r. ⌜ (r .«response_needed» ≡ needed) × (take (r .«answer_len») (r .answer) ≡ entryAt i (now (numbers .entry)) (now (texts .entry)) .service) ⌝ }
 {
     let field = field_at(texts, TEXTS_WIDTH * i + TYPE_PLACE);
     ActiveAdvertisement {
@@ -350,23 +350,23 @@ fn filled(
     texts: &mut [u8],
     i: usize,
     name: &[u8],
-    kind: &[u8],
+    service: &[u8],
     location: &[u8],
 )
-    requires { ⌜ (i < advertisementsMax) × (length (now name) ≤ nameMax) × (length (now kind) ≤ typeMax) × (length (now location) ≤ locationMax) × NameArrays (now numbers) (now texts) ⌝ }
-    ensures { λ _. ⌜ Filled i (newcomer (now (name .entry)) (now (kind .entry)) (now (location .entry))) (now (numbers .entry)) (now (texts .entry)) (now (numbers .exit)) (now (texts .exit)) ⌝ }
+    requires { ⌜ (i < advertisementsMax) × (length (now name) ≤ nameMax) × (length (now service) ≤ typeMax) × (length (now location) ≤ locationMax) × NameArrays (now numbers) (now texts) ⌝ }
+    ensures { λ _. ⌜ Filled i (newcomer (now (name .entry)) (now (service .entry)) (now (location .entry))) (now (numbers .entry)) (now (texts .entry)) (now (numbers .exit)) (now (texts .exit)) ⌝ }
 {
     let a = NUMBERS_WIDTH * i;
     let e = a + NUMBERS_WIDTH;
     fill_numbers(
         &mut numbers[a..e],
         number_of(name.len()),
-        number_of(kind.len()),
+        number_of(service.len()),
         number_of(location.len()),
     );
     let s = TEXTS_WIDTH * i;
     let t = s + TEXTS_WIDTH;
-    fill_texts(&mut texts[s..t], name, kind, location);
+    fill_texts(&mut texts[s..t], name, service, location);
 }
 
 // A new name before row i of the first n.
@@ -376,14 +376,14 @@ pub(crate) fn put_in(
     n: usize,
     i: usize,
     name: &[u8],
-    kind: &[u8],
+    service: &[u8],
     location: &[u8],
 )
-    requires { ⌜ (i ≤ n) × (n < advertisementsMax) × (length (now name) ≤ nameMax) × (length (now kind) ≤ typeMax) × (length (now location) ≤ locationMax) × NameArrays (now numbers) (now texts) ⌝ }
-    ensures { λ _. ⌜ entries (suc n) (now (numbers .exit)) (now (texts .exit)) ≡ insertAt i (newcomer (now (name .entry)) (now (kind .entry)) (now (location .entry))) (entries n (now (numbers .entry)) (now (texts .entry))) ⌝ }
+    requires { ⌜ (i ≤ n) × (n < advertisementsMax) × (length (now name) ≤ nameMax) × (length (now service) ≤ typeMax) × (length (now location) ≤ locationMax) × NameArrays (now numbers) (now texts) ⌝ }
+    ensures { λ _. ⌜ entries (suc n) (now (numbers .exit)) (now (texts .exit)) ≡ insertAt i (newcomer (now (name .entry)) (now (service .entry)) (now (location .entry))) (entries n (now (numbers .entry)) (now (texts .entry))) ⌝ }
 {
     opened(numbers, texts, n, i);
-    filled(numbers, texts, i, name, kind, location);
+    filled(numbers, texts, i, name, service, location);
 }
 
 // A new name in the place of row i.
@@ -393,13 +393,13 @@ pub(crate) fn put_over(
     n: usize,
     i: usize,
     name: &[u8],
-    kind: &[u8],
+    service: &[u8],
     location: &[u8],
 )
-    requires { ⌜ (i < n) × (n ≤ advertisementsMax) × (length (now name) ≤ nameMax) × (length (now kind) ≤ typeMax) × (length (now location) ≤ locationMax) × NameArrays (now numbers) (now texts) ⌝ }
-    ensures { λ _. ⌜ entries n (now (numbers .exit)) (now (texts .exit)) ≡ set (entries n (now (numbers .entry)) (now (texts .entry))) i (newcomer (now (name .entry)) (now (kind .entry)) (now (location .entry))) ⌝ }
+    requires { ⌜ (i < n) × (n ≤ advertisementsMax) × (length (now name) ≤ nameMax) × (length (now service) ≤ typeMax) × (length (now location) ≤ locationMax) × NameArrays (now numbers) (now texts) ⌝ }
+    ensures { λ _. ⌜ entries n (now (numbers .exit)) (now (texts .exit)) ≡ set (entries n (now (numbers .entry)) (now (texts .entry))) i (newcomer (now (name .entry)) (now (service .entry)) (now (location .entry))) ⌝ }
 {
-    filled(numbers, texts, i, name, kind, location);
+    filled(numbers, texts, i, name, service, location);
 }
 
 // The first n rows without row i.

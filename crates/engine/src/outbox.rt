@@ -68,12 +68,12 @@ const GROUP: Endpoint = Endpoint {
 };
 
 // Record k: a search for a type, to the group. Answers the next record's number.
-pub(crate) fn search_on(outbox: &mut [u8], k: usize, source: u32, kind: &[u8]) -> usize
+pub(crate) fn search_on(outbox: &mut [u8], k: usize, source: u32, service: &[u8]) -> usize
     requires { ⌜ recordSize * (k + 1) ≤ length (now outbox) ⌝ }
-    ensures { λ r. ⌜ Sends (now (outbox .entry)) k (SearchFrom source (now (kind .entry)) ∷ []) (now (outbox .exit)) r ⌝ }
+    ensures { λ r. ⌜ Sends (now (outbox .entry)) k (SearchFrom source (now (service .entry)) ∷ []) (now (outbox .exit)) r ⌝ }
 {
     let at = RECORD_SIZE * k + RECORD_HEAD;
-    let built = message::build_search(&mut outbox[at..], kind);
+    let built = message::build_search(&mut outbox[at..], service);
     frame(outbox, k, GROUP, source, built.len);
     k + 1
 }
@@ -83,28 +83,34 @@ pub(crate) fn notify_on(
     outbox: &mut [u8],
     k: usize,
     source: u32,
-    kind: &[u8],
+    service: &[u8],
     name: &[u8],
     location: &[u8],
 ) -> usize
     requires { ⌜ (recordSize * (k + 1) ≤ length (now outbox)) × (length (now location) ≤ locationMax) ⌝ }
-    ensures { λ r. ⌜ Sends (now (outbox .entry)) k (NotifyFrom source (now (kind .entry)) (now (name .entry)) (now (location .entry)) ∷ []) (now (outbox .exit)) r ⌝ }
+    ensures { λ r. ⌜ Sends (now (outbox .entry)) k (NotifyFrom source (now (service .entry)) (now (name .entry)) (now (location .entry)) ∷ []) (now (outbox .exit)) r ⌝ }
 {
     let mut url = [0u8; REWRITTEN_SIZE];
     let len = rewrite_host(&mut url, location, source);
     let at = RECORD_SIZE * k + RECORD_HEAD;
-    let built = message::build_notify(&mut outbox[at..], kind, name, &url[..len]);
+    let built = message::build_notify(&mut outbox[at..], service, name, &url[..len]);
     frame(outbox, k, GROUP, source, built.len);
     k + 1
 }
 
 // Record k: that a service goes, to the group. Answers the next record's number.
-pub(crate) fn byebye_on(outbox: &mut [u8], k: usize, source: u32, kind: &[u8], name: &[u8]) -> usize
+pub(crate) fn byebye_on(
+    outbox: &mut [u8],
+    k: usize,
+    source: u32,
+    service: &[u8],
+    name: &[u8],
+) -> usize
     requires { ⌜ recordSize * (k + 1) ≤ length (now outbox) ⌝ }
-    ensures { λ r. ⌜ Sends (now (outbox .entry)) k (ByeByeFrom source (now (kind .entry)) (now (name .entry)) ∷ []) (now (outbox .exit)) r ⌝ }
+    ensures { λ r. ⌜ Sends (now (outbox .entry)) k (ByeByeFrom source (now (service .entry)) (now (name .entry)) ∷ []) (now (outbox .exit)) r ⌝ }
 {
     let at = RECORD_SIZE * k + RECORD_HEAD;
-    let built = message::build_byebye(&mut outbox[at..], kind, name);
+    let built = message::build_byebye(&mut outbox[at..], service, name);
     frame(outbox, k, GROUP, source, built.len);
     k + 1
 }
@@ -115,17 +121,17 @@ pub(crate) fn send_response(
     k: usize,
     source: u32,
     to: Endpoint,
-    kind: &[u8],
+    service: &[u8],
     name: &[u8],
     location: &[u8],
 ) -> usize
     requires { ⌜ (recordSize * (k + 1) ≤ length (now outbox)) × (length (now location) ≤ locationMax) ⌝ }
-    ensures { λ r. ⌜ Sends (now (outbox .entry)) k (ResponseFrom source to (now (kind .entry)) (now (name .entry)) (now (location .entry)) ∷ []) (now (outbox .exit)) r ⌝ }
+    ensures { λ r. ⌜ Sends (now (outbox .entry)) k (ResponseFrom source to (now (service .entry)) (now (name .entry)) (now (location .entry)) ∷ []) (now (outbox .exit)) r ⌝ }
 {
     let mut url = [0u8; REWRITTEN_SIZE];
     let len = rewrite_host(&mut url, location, source);
     let at = RECORD_SIZE * k + RECORD_HEAD;
-    let built = message::build_response(&mut outbox[at..], kind, name, &url[..len]);
+    let built = message::build_response(&mut outbox[at..], service, name, &url[..len]);
     frame(outbox, k, to, source, built.len);
     k + 1
 }

@@ -5,9 +5,9 @@ use crate::delay::delay_of;
 use crate::field::type_bytes;
 use crate::names::ActiveAdvertisement;
 use crate::names::count_of;
-use crate::names::kind_at;
 use crate::names::own_type_at;
 use crate::names::reply_at;
+use crate::names::service_at;
 use crate::names::store_active;
 use crate::names::store_reply;
 use crate::replies::alone_of;
@@ -80,15 +80,15 @@ fn opened_by(target: &[u8], due: u64, sender: Endpoint, receiver: u32) -> Active
 // Whether a search asks for name i.
 fn is_asked(numbers: &[u64], texts: &[u8], i: usize, target: &[u8], wanted: Wanted) -> bool
     requires { ⌜ (i < advertisementsMax) × NameArrays (now numbers) (now texts) × (wanted ≡ wantedOf (now target)) ⌝ }
-    ensures { λ r. ⌜ r ≡ targetMatch (now (target .entry)) (entryAt i (now (numbers .entry)) (now (texts .entry)) .kind) ⌝ }
+    ensures { λ r. ⌜ r ≡ targetMatch (now (target .entry)) (entryAt i (now (numbers .entry)) (now (texts .entry)) .service) ⌝ }
 {
-    wants(target, wanted, kind_at(numbers, texts, i))
+    wants(target, wanted, service_at(numbers, texts, i))
 }
 
 // Opens the reply of name i. `ssdp:all`, which asks for all types, is answered in the name's own type.
 fn open_at(numbers: &mut [u64], texts: &mut [u8], i: usize, all: bool, opened: ActiveAdvertisement)
     requires { ⌜ (i < advertisementsMax) × NameArrays (now numbers) (now texts) ⌝ }
-    ensures { λ _. ⌜ ((n : ℕ) → i < n → n ≤ advertisementsMax → entries n (now (numbers .exit)) (now (texts .exit)) ≡ changeAt blank i (withActive (opened .«response_needed») (cond all (entryAt i (now (numbers .entry)) (now (texts .entry)) .kind) (take (opened .«answer_len») (opened .answer)))) (entries n (now (numbers .entry)) (now (texts .entry)))) ⌝ }
+    ensures { λ _. ⌜ ((n : ℕ) → i < n → n ≤ advertisementsMax → entries n (now (numbers .exit)) (now (texts .exit)) ≡ changeAt blank i (withActive (opened .«response_needed») (cond all (entryAt i (now (numbers .entry)) (now (texts .entry)) .service) (take (opened .«answer_len») (opened .answer)))) (entries n (now (numbers .entry)) (now (texts .entry)))) ⌝ }
 {
     if all {
         let needed = opened.response_needed;
@@ -117,7 +117,7 @@ fn ask_for(
     receiver: u32,
 ) -> Asked
     requires { ⌜ (i < advertisementsMax) × NameArrays (now numbers) (now texts) ⌝ }
-    ensures { λ r. ⌜ ((target : List ℕ) (n : ℕ) → Opening target due sender receiver all opened → targetMatch target (entryAt i (now (numbers .entry)) (now (texts .entry)) .kind) ≡ true → i < n → n ≤ advertisementsMax → PassOne (asked due (askedBy target sender receiver)) (matchedBy (askedBy target sender receiver)) (joinedBy (askedBy target sender receiver)) blank i (entries n (now (numbers .entry)) (now (texts .entry))) (entries n (now (numbers .exit)) (now (texts .exit))) (r .matched) (r .joined)) ⌝ }
+    ensures { λ r. ⌜ ((target : List ℕ) (n : ℕ) → Opening target due sender receiver all opened → targetMatch target (entryAt i (now (numbers .entry)) (now (texts .entry)) .service) ≡ true → i < n → n ≤ advertisementsMax → PassOne (asked due (askedBy target sender receiver)) (matchedBy (askedBy target sender receiver)) (joinedBy (askedBy target sender receiver)) blank i (entries n (now (numbers .entry)) (now (texts .entry))) (entries n (now (numbers .exit)) (now (texts .exit))) (r .matched) (r .joined)) ⌝ }
 {
     let needed = reply_at(numbers, i);
     if opens(needed) {

@@ -61,28 +61,28 @@ pub(crate) fn of_advertise(
     count: usize,
     room: usize,
     name: &[u8],
-    kind: &[u8],
+    service: &[u8],
     location: &[u8],
 ) -> u32
-    ensures { λ r. ⌜ ((x : Context) (n : Names) → n .holds (now (name .entry)) ≡ held → n .count ≡ count → n .need ≡ outboxSize → r ≡ refusal x n (Advertise (now (name .entry)) (now (kind .entry)) (now (location .entry)) room)) ⌝ }
+    ensures { λ r. ⌜ ((x : Context) (n : Names) → n .holds (now (name .entry)) ≡ held → n .count ≡ count → n .need ≡ outboxSize → r ≡ refusal x n (Advertise (now (name .entry)) (now (service .entry)) (now (location .entry)) room)) ⌝ }
 {
     let full = first((!held) & (NAMES <= count), TABLE_FULL, 0);
-    let bad = (!good::is_good(name)) | (!good::is_good(kind)) | (!good::is_good(location));
+    let bad = (!good::is_good(name)) | (!good::is_good(service)) | (!good::is_good(location));
     let formed = first(bad, TEXT_NOT_GOOD, full);
     let over = (NAME_SIZE < name.len())
-        | (TYPE_SIZE < kind.len())
+        | (TYPE_SIZE < service.len())
         | (LOCATION_SIZE < location.len());
     let sized = first(over, TEXT_OVER_SIZE, formed);
     first(room < OUTBOX_SIZE, OUTBOX_SHORT, sized)
 }
 
 // `subscribe`, where `count` subscriptions are held.
-pub(crate) fn of_subscribe(count: usize, room: usize, kind: &[u8]) -> u32
-    ensures { λ r. ⌜ ((x : Context) (n : Names) → length (x .subscriptions) ≡ count → n .need ≡ outboxSize → r ≡ refusal x n (Subscribe (now (kind .entry)) room)) ⌝ }
+pub(crate) fn of_subscribe(count: usize, room: usize, service: &[u8]) -> u32
+    ensures { λ r. ⌜ ((x : Context) (n : Names) → length (x .subscriptions) ≡ count → n .need ≡ outboxSize → r ≡ refusal x n (Subscribe (now (service .entry)) room)) ⌝ }
 {
     let full = first(SUBSCRIPTIONS <= count, TABLE_FULL, 0);
-    let formed = first(!good::is_good(kind), TEXT_NOT_GOOD, full);
-    let sized = first(TYPE_SIZE < kind.len(), TEXT_OVER_SIZE, formed);
+    let formed = first(!good::is_good(service), TEXT_NOT_GOOD, full);
+    let sized = first(TYPE_SIZE < service.len(), TEXT_OVER_SIZE, formed);
     first(room < OUTBOX_SIZE, OUTBOX_SHORT, sized)
 }
 
@@ -140,7 +140,13 @@ pub(crate) fn of_deleted_link(index: u32) -> u32
 }
 
 // A new address, which would be stored or not on a link of `count` addresses.
-pub(crate) fn of_new_address(storing: bool, count: usize, index: u32, address: &[u8], room: usize) -> u32
+pub(crate) fn of_new_address(
+    storing: bool,
+    count: usize,
+    index: u32,
+    address: &[u8],
+    room: usize,
+) -> u32
     ensures { λ r. ⌜ ((x : Context) (n : Names) → stores index (now (address .entry)) (x .links) ≡ storing → length (addressesOf (linkAt index (x .links))) ≡ count → n .need ≡ outboxSize → r ≡ refusal x n (NewAddress index (now (address .entry)) room)) ⌝ }
 {
     let full = first(storing & (ADDRESSES <= count), LINKS_FULL, 0);

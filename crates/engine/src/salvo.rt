@@ -37,7 +37,7 @@ pub(crate) fn announce_name(
         up,
         n,
         what,
-        names::kind_at(numbers, texts, i),
+        names::service_at(numbers, texts, i),
         names::name_at(numbers, texts, i),
         names::location_at(numbers, texts, i),
     )
@@ -61,7 +61,7 @@ fn announce_search(
         up,
         n,
         Announcement::Search,
-        subscription::kind_at(searches, i),
+        subscription::service_at(searches, i),
         b"",
         b"",
     )

@@ -19,11 +19,11 @@ ghost use Rattle.engine.specs.Layout.{Room, Sends, Sent};
 ghost use Rattle.engine.specs.Arrays.{entryAt, namesIn, searchesIn, NameArrays, SearchArrays};
 
 // `subscribe`: a search from each of the first `n` addresses.
-pub(crate) fn send_search(outbox: &mut [u8], up: [u32; SOURCES], n: usize, kind: &[u8]) -> usize
+pub(crate) fn send_search(outbox: &mut [u8], up: [u32; SOURCES], n: usize, service: &[u8]) -> usize
     requires { ⌜ outboxSize ≤ length (now outbox) ⌝ }
-    ensures { λ r. ⌜ Sent (searchOn (take n up) (now (kind .entry))) (now (outbox .entry)) (now (outbox .exit)) r ⌝ }
+    ensures { λ r. ⌜ Sent (searchOn (take n up) (now (service .entry))) (now (outbox .entry)) (now (outbox .exit)) r ⌝ }
 {
-    announce_on_all(outbox, 0, up, n, Announcement::Search, kind, b"", b"")
+    announce_on_all(outbox, 0, up, n, Announcement::Search, service, b"", b"")
 }
 
 // `advertise`: that a service is there, from each of the first `n` addresses.
@@ -31,14 +31,23 @@ pub(crate) fn send_alive(
     outbox: &mut [u8],
     up: [u32; SOURCES],
     n: usize,
-    kind: &[u8],
+    service: &[u8],
     name: &[u8],
     location: &[u8],
 ) -> usize
     requires { ⌜ (outboxSize ≤ length (now outbox)) × (length (now location) ≤ locationMax) ⌝ }
-    ensures { λ r. ⌜ Sent (map (λ source. NotifyFrom source (now (kind .entry)) (now (name .entry)) (now (location .entry))) (take n up)) (now (outbox .entry)) (now (outbox .exit)) r ⌝ }
+    ensures { λ r. ⌜ Sent (map (λ source. NotifyFrom source (now (service .entry)) (now (name .entry)) (now (location .entry))) (take n up)) (now (outbox .entry)) (now (outbox .exit)) r ⌝ }
 {
-    announce_on_all(outbox, 0, up, n, Announcement::Alive, kind, name, location)
+    announce_on_all(
+        outbox,
+        0,
+        up,
+        n,
+        Announcement::Alive,
+        service,
+        name,
+        location,
+    )
 }
 
 // `deadvertise` of name i: that its service goes, from each of the first `n` addresses.

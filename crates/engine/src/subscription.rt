@@ -20,7 +20,7 @@ ghost use Rattle.engine.specs.Target.{ssdpAll, targetMatch};
 ghost use Rattle.engine.specs.Records.{anyAll};
 ghost use Rattle.engine.specs.Replies.{one};
 ghost use Rattle.engine.specs.Engine.{maskOf};
-ghost use Rattle.engine.specs.Telling.{Tells};
+ghost use Rattle.engine.specs.Notifying.{Notifies};
 ghost use Rattle.engine.specs.Arrays.{headPlaces, searchWidth, searchBytes, searchIn, searchAt, searchRows, searchCount, searchesIn, SearchArrays};
 
 // The subscriptions to be told: bit k for subscription k, and their number.
@@ -30,10 +30,10 @@ pub struct Subscribers {
 }
 
 // Whether a type is `ssdp:all`.
-pub(crate) fn is_all(kind: &[u8]) -> bool
-    ensures { λ r. ⌜ r ≡ equal (now (kind .entry)) ssdpAll ⌝ }
+pub(crate) fn is_all(service: &[u8]) -> bool
+    ensures { λ r. ⌜ r ≡ equal (now (service .entry)) ssdpAll ⌝ }
 {
-    equal(kind, b"ssdp:all")
+    equal(service, b"ssdp:all")
 }
 
 // How many subscriptions are held.
@@ -45,7 +45,7 @@ pub(crate) fn count_of(head: &[u64]) -> usize
 }
 
 // The type of subscription i.
-pub(crate) fn kind_at(searches: &[u8], i: usize) -> &[u8]
+pub(crate) fn service_at(searches: &[u8], i: usize) -> &[u8]
     requires { ⌜ (i < subscriptionsMax) × (length (now searches) ≡ searchBytes) ⌝ }
     ensures { λ r. ⌜ now r ≡ searchAt i (now (searches .entry)) ⌝ }
 {
@@ -56,22 +56,22 @@ pub(crate) fn kind_at(searches: &[u8], i: usize) -> &[u8]
 }
 
 // A type, which fits, into a row.
-fn set_kind(row: &mut [u8], kind: &[u8])
-    requires { ⌜ (length (now row) ≡ searchWidth) × (length (now kind) ≤ typeMax) ⌝ }
-    ensures { λ _. ⌜ searchIn (now (row .exit)) ≡ now (kind .entry) ⌝ }
+fn set_service(row: &mut [u8], service: &[u8])
+    requires { ⌜ (length (now row) ≡ searchWidth) × (length (now service) ≤ typeMax) ⌝ }
+    ensures { λ _. ⌜ searchIn (now (row .exit)) ≡ now (service .entry) ⌝ }
 {
-    row[0] = kind.len() as u8;
-    put(row, 1, kind);
+    row[0] = service.len() as u8;
+    put(row, 1, service);
 }
 
 // A type, which fits, behind the first n rows.
-pub(crate) fn push(searches: &mut [u8], n: usize, kind: &[u8])
-    requires { ⌜ (n < subscriptionsMax) × (length (now kind) ≤ typeMax) × (length (now searches) ≡ searchBytes) ⌝ }
-    ensures { λ _. ⌜ searchRows (suc n) (now (searches .exit)) ≡ searchRows n (now (searches .entry)) ++ (now (kind .entry) ∷ []) ⌝ }
+pub(crate) fn push(searches: &mut [u8], n: usize, service: &[u8])
+    requires { ⌜ (n < subscriptionsMax) × (length (now service) ≤ typeMax) × (length (now searches) ≡ searchBytes) ⌝ }
+    ensures { λ _. ⌜ searchRows (suc n) (now (searches .exit)) ≡ searchRows n (now (searches .entry)) ++ (now (service .entry) ∷ []) ⌝ }
 {
     let a = SEARCH_WIDTH * n;
     let e = a + SEARCH_WIDTH;
-    set_kind(&mut searches[a..e], kind);
+    set_service(&mut searches[a..e], service);
 }
 
 // Whether subscription i is to `ssdp:all`.
@@ -79,7 +79,7 @@ fn is_to_all(searches: &[u8], i: usize) -> bool
     requires { ⌜ (i < subscriptionsMax) × (length (now searches) ≡ searchBytes) ⌝ }
     ensures { λ r. ⌜ r ≡ equal (searchAt i (now (searches .entry))) ssdpAll ⌝ }
 {
-    is_all(kind_at(searches, i))
+    is_all(service_at(searches, i))
 }
 
 // Whether any subscription is to `ssdp:all`.
@@ -99,11 +99,11 @@ pub(crate) fn any_all(head: &[u64], searches: &[u8]) -> bool
 }
 
 // Whether subscription i, as the search, matches a type.
-fn is_told(searches: &[u8], i: usize, kind: &[u8]) -> bool
+fn is_told(searches: &[u8], i: usize, service: &[u8]) -> bool
     requires { ⌜ (i < subscriptionsMax) × (length (now searches) ≡ searchBytes) ⌝ }
-    ensures { λ r. ⌜ r ≡ targetMatch (searchAt i (now (searches .entry))) (now (kind .entry)) ⌝ }
+    ensures { λ r. ⌜ r ≡ targetMatch (searchAt i (now (searches .entry))) (now (service .entry)) ⌝ }
 {
-    target_match(kind_at(searches, i), kind)
+    target_match(service_at(searches, i), service)
 }
 
 // The mask with one bit more below it.
@@ -118,26 +118,26 @@ fn below(mask: u32, bit: bool) -> u32
 }
 
 // Bit k is set when subscription k matches the type. From the last subscription to the first.
-fn mask_of(head: &[u64], searches: &[u8], kind: &[u8]) -> u32
+fn mask_of(head: &[u64], searches: &[u8], service: &[u8]) -> u32
     requires { ⌜ SearchArrays (now head) (now searches) ⌝ }
-    ensures { λ r. ⌜ r ≡ maskOf (searchesIn (now (head .entry)) (now (searches .entry))) (now (kind .entry)) ⌝ }
+    ensures { λ r. ⌜ r ≡ maskOf (searchesIn (now (head .entry)) (now (searches .entry))) (now (service .entry)) ⌝ }
 {
     let mut i = count_of(head);
     let mut mask: u32 = 0;
     while 0 < i {
         i -= 1;
-        let bit = is_told(searches, i, kind);
+        let bit = is_told(searches, i, service);
         mask = below(mask, bit);
     }
     mask
 }
 
 // The subscriptions that a type concerns. The number told is the count of the mask's ones.
-pub(crate) fn told_of(head: &[u64], searches: &[u8], kind: &[u8]) -> Subscribers
+pub(crate) fn told_of(head: &[u64], searches: &[u8], service: &[u8]) -> Subscribers
     requires { ⌜ SearchArrays (now head) (now searches) ⌝ }
-    ensures { λ r. ⌜ Tells (searchesIn (now (head .entry)) (now (searches .entry))) (now (kind .entry)) r ⌝ }
+    ensures { λ r. ⌜ Notifies (searchesIn (now (head .entry)) (now (searches .entry))) (now (service .entry)) r ⌝ }
 {
-    let mask = mask_of(head, searches, kind);
+    let mask = mask_of(head, searches, service);
     Subscribers {
         mask: mask,
         told: u32::count_ones(mask),

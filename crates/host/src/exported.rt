@@ -117,12 +117,12 @@ pub extern "C" fn kohlsilk_lent_subscribe(
     links: &Links,
     searches: &mut Searches,
     numbers: &Numbers,
-    kind: &[u8],
+    service: &[u8],
     outbox: &mut [u8],
 ) -> Answer
-    ensures { λ r. ⌜ ((texts : List ℕ) → Answers (engine (now (head .entry)) (now (links .entry)) (now (searches .entry)) (now (numbers .entry)) texts) (Subscribe (now (kind .entry)) (length (now (outbox .entry)))) (now (outbox .entry)) (now (outbox .exit)) (answered (engine (now (head .exit)) (now (links .entry)) (now (searches .exit)) (now (numbers .entry)) texts) r)) ⌝ }
+    ensures { λ r. ⌜ ((texts : List ℕ) → Answers (engine (now (head .entry)) (now (links .entry)) (now (searches .entry)) (now (numbers .entry)) texts) (Subscribe (now (service .entry)) (length (now (outbox .entry)))) (now (outbox .entry)) (now (outbox .exit)) (answered (engine (now (head .exit)) (now (links .entry)) (now (searches .exit)) (now (numbers .entry)) texts) r)) ⌝ }
 {
-    calls::subscribe(head, links, searches, numbers, kind, outbox)
+    calls::subscribe(head, links, searches, numbers, service, outbox)
 }
 
 // Announces a service under a name, now and at each refresh. A name that is held is replaced, and its waiting reply dropped.
@@ -133,13 +133,13 @@ pub extern "C" fn kohlsilk_lent_advertise(
     numbers: &mut Numbers,
     texts: &mut Texts,
     name: &[u8],
-    kind: &[u8],
+    service: &[u8],
     location: &[u8],
     outbox: &mut [u8],
 ) -> Answer
-    ensures { λ r. ⌜ ((searches : List ℕ) → Answers (engine (now (head .entry)) (now (links .entry)) searches (now (numbers .entry)) (now (texts .entry))) (Advertise (now (name .entry)) (now (kind .entry)) (now (location .entry)) (length (now (outbox .entry)))) (now (outbox .entry)) (now (outbox .exit)) (answered (engine (now (head .exit)) (now (links .entry)) searches (now (numbers .exit)) (now (texts .exit))) r)) ⌝ }
+    ensures { λ r. ⌜ ((searches : List ℕ) → Answers (engine (now (head .entry)) (now (links .entry)) searches (now (numbers .entry)) (now (texts .entry))) (Advertise (now (name .entry)) (now (service .entry)) (now (location .entry)) (length (now (outbox .entry)))) (now (outbox .entry)) (now (outbox .exit)) (answered (engine (now (head .exit)) (now (links .entry)) searches (now (numbers .exit)) (now (texts .exit))) r)) ⌝ }
 {
-    calls::advertise(head, links, numbers, texts, name, kind, location, outbox)
+    calls::advertise(head, links, numbers, texts, name, service, location, outbox)
 }
 
 // Says that a service has gone. An unknown name does nothing.

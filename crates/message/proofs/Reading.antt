@@ -58,22 +58,22 @@ module _ (s : List ℕ) (start n : ℕ) where
     field-some = ap (take n) all-rest
 
 -- a notify, from the value of its NTS
-module _ (s : List ℕ) {nts : Header} (nt usn location : Header) {p : Place} (there : nts ≡ At p) {kind : List ℕ} (at : kind ≡ fieldAt s p) where
-  by-kind : cond (equal kind (bytes "ssdp:alive")) (aliveOf nt usn location) (cond (equal kind (bytes "ssdp:byebye")) (byebyeOf nt usn) (refuses datagramInvalid))
+module _ (s : List ℕ) {nts : Header} (nt usn location : Header) {p : Place} (there : nts ≡ At p) {service : List ℕ} (at : service ≡ fieldAt s p) where
+  by-service : cond (equal service (bytes "ssdp:alive")) (aliveOf nt usn location) (cond (equal service (bytes "ssdp:byebye")) (byebyeOf nt usn) (refuses datagramInvalid))
       ≡ notifyOf s nts nt usn location
-  by-kind =
+  by-service =
       ap (λ (l : List ℕ). cond (equal l (bytes "ssdp:alive")) (aliveOf nt usn location) (cond (equal l (bytes "ssdp:byebye")) (byebyeOf nt usn) (refuses datagramInvalid))) at
       ∙ given1 (λ p. cond (equal (fieldAt s p) (bytes "ssdp:alive")) (aliveOf nt usn location) (cond (equal (fieldAt s p) (bytes "ssdp:byebye")) (byebyeOf nt usn) (refuses datagramInvalid))) there
 
-  module _ {t : Bool} (alive : t ≡ equal kind (bytes "ssdp:alive")) where
+  module _ {t : Bool} (alive : t ≡ equal service (bytes "ssdp:alive")) where
     pub is-alive : {m : ParseAnswer} → t ≡ true → m ≡ aliveOf nt usn location → m ≡ notifyOf s nts nt usn location
-    is-alive f g = is-so _ alive f g ∙ by-kind
+    is-alive f g = is-so _ alive f g ∙ by-service
 
-    pub is-byebye : {u : Bool} {m : ParseAnswer} → t ≡ false → u ≡ equal kind (bytes "ssdp:byebye") → u ≡ true → m ≡ byebyeOf nt usn → m ≡ notifyOf s nts nt usn location
-    is-byebye f e g h = is-not _ alive f (is-so _ e g h) ∙ by-kind
+    pub is-byebye : {u : Bool} {m : ParseAnswer} → t ≡ false → u ≡ equal service (bytes "ssdp:byebye") → u ≡ true → m ≡ byebyeOf nt usn → m ≡ notifyOf s nts nt usn location
+    is-byebye f e g h = is-not _ alive f (is-so _ e g h) ∙ by-service
 
-    pub is-neither : {u : Bool} → t ≡ false → u ≡ equal kind (bytes "ssdp:byebye") → u ≡ false → refuses datagramInvalid ≡ notifyOf s nts nt usn location
-    is-neither f e g = is-not _ alive f (is-not _ e g refl) ∙ by-kind
+    pub is-neither : {u : Bool} → t ≡ false → u ≡ equal service (bytes "ssdp:byebye") → u ≡ false → refuses datagramInvalid ≡ notifyOf s nts nt usn location
+    is-neither f e g = is-not _ alive f (is-not _ e g refl) ∙ by-service
 
 -- a search, from the number of its MX
 module _ (s : List ℕ) {st mx : Header} {x y : Place} (p : st ≡ At x) (q : mx ≡ At y) {l : List ℕ} (at : l ≡ fieldAt s y) {n : Number} (e : n ≡ number max8 l) where

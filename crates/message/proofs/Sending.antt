@@ -18,20 +18,20 @@ use Rattle.message.proofs.Building.{search-length, response-length, not
 use Rattle.text.proofs.Writing as puts
 
 -- "no message passes 506"
-module _ (kind name location : List ℕ) where
-  pub search-most : length kind ≤ typeMax → length (searchText kind) ≤ messageMax
-  search-most k = omega (arith, search-length kind)
+module _ (service name location : List ℕ) where
+  pub search-most : length service ≤ typeMax → length (searchText service) ≤ messageMax
+  search-most k = omega (arith, search-length service)
 
-  pub byebye-most : length kind ≤ typeMax → length name ≤ nameMax → length (byebyeText kind name) ≤ messageMax
-  byebye-most k n = omega (arith, byebye-length kind name)
+  pub byebye-most : length service ≤ typeMax → length name ≤ nameMax → length (byebyeText service name) ≤ messageMax
+  byebye-most k n = omega (arith, byebye-length service name)
 
-  pub response-most : length kind ≤ typeMax → length name ≤ nameMax → length location ≤ buildLocationMax
-      → length (responseText kind name location) ≤ messageMax
-  response-most k n l = omega (arith, response-length kind name location)
+  pub response-most : length service ≤ typeMax → length name ≤ nameMax → length location ≤ buildLocationMax
+      → length (responseText service name location) ≤ messageMax
+  response-most k n l = omega (arith, response-length service name location)
 
-  pub notify-most : length kind ≤ typeMax → length name ≤ nameMax → length location ≤ buildLocationMax
-      → length (notifyText kind name location) ≤ messageMax
-  notify-most k n l = omega (arith, notify-length kind name location)
+  pub notify-most : length service ≤ typeMax → length name ≤ nameMax → length location ≤ buildLocationMax
+      → length (notifyText service name location) ≤ messageMax
+  notify-most k n l = omega (arith, notify-length service name location)
 
 -- a text that no build refuses
 pub record Fit (t : Bounded) : Type 0 where

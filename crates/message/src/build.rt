@@ -77,47 +77,47 @@ fn put_notify(buf: &mut [u8]) -> usize
     put(buf, b, &MAX_AGE)
 }
 
-fn put_search(buf: &mut [u8], kind: &[u8]) -> usize
-    requires { ⌜ 86 + length (now kind) ≤ length (now buf) ⌝ }
-    ensures { λ r. ⌜ Put (now (buf .entry)) 0 (searchText (now (kind .entry))) (now (buf .exit)) r ⌝ }
+fn put_search(buf: &mut [u8], service: &[u8]) -> usize
+    requires { ⌜ 86 + length (now service) ≤ length (now buf) ⌝ }
+    ensures { λ r. ⌜ Put (now (buf .entry)) 0 (searchText (now (service .entry))) (now (buf .exit)) r ⌝ }
 {
     let a = put(buf, 0, b"M-SEARCH * HTTP/1.1\r\n");
     let b = put(buf, a, &HOST);
     let c = put(buf, b, b"MAN: \"ssdp:discover\"\r\nMX: 5\r\n");
-    let d = put_header(buf, c, b"ST: ", kind);
+    let d = put_header(buf, c, b"ST: ", service);
     put(buf, d, b"\r\n")
 }
 
-fn put_response(buf: &mut [u8], kind: &[u8], name: &[u8], location: &[u8]) -> usize
-    requires { ⌜ 116 + (length (now kind) + (length (now name) + length (now location))) ≤ length (now buf) ⌝ }
-    ensures { λ r. ⌜ Put (now (buf .entry)) 0 (responseText (now (kind .entry)) (now (name .entry)) (now (location .entry))) (now (buf .exit)) r ⌝ }
+fn put_response(buf: &mut [u8], service: &[u8], name: &[u8], location: &[u8]) -> usize
+    requires { ⌜ 116 + (length (now service) + (length (now name) + length (now location))) ≤ length (now buf) ⌝ }
+    ensures { λ r. ⌜ Put (now (buf .entry)) 0 (responseText (now (service .entry)) (now (name .entry)) (now (location .entry))) (now (buf .exit)) r ⌝ }
 {
     let a = put(buf, 0, b"HTTP/1.1 200 OK\r\n");
     let b = put(buf, a, &MAX_AGE);
-    let c = put_header(buf, b, b"ST: ", kind);
+    let c = put_header(buf, b, b"ST: ", service);
     let d = put_header(buf, c, b"USN: ", name);
     let e = put_header(buf, d, b"LOCATION: ", location);
     put(buf, e, &SERVER_AND_END)
 }
 
-fn put_alive(buf: &mut [u8], kind: &[u8], name: &[u8], location: &[u8]) -> usize
-    requires { ⌜ 163 + (length (now kind) + (length (now name) + length (now location))) ≤ length (now buf) ⌝ }
-    ensures { λ r. ⌜ Put (now (buf .entry)) 0 (notifyText (now (kind .entry)) (now (name .entry)) (now (location .entry))) (now (buf .exit)) r ⌝ }
+fn put_alive(buf: &mut [u8], service: &[u8], name: &[u8], location: &[u8]) -> usize
+    requires { ⌜ 163 + (length (now service) + (length (now name) + length (now location))) ≤ length (now buf) ⌝ }
+    ensures { λ r. ⌜ Put (now (buf .entry)) 0 (notifyText (now (service .entry)) (now (name .entry)) (now (location .entry))) (now (buf .exit)) r ⌝ }
 {
     let a = put_notify(buf);
     let b = put_header(buf, a, b"LOCATION: ", location);
-    let c = put_header(buf, b, b"NT: ", kind);
+    let c = put_header(buf, b, b"NT: ", service);
     let d = put(buf, c, b"NTS: ssdp:alive\r\n");
     let e = put_header(buf, d, b"USN: ", name);
     put(buf, e, &SERVER_AND_END)
 }
 
-fn put_byebye(buf: &mut [u8], kind: &[u8], name: &[u8]) -> usize
-    requires { ⌜ 152 + (length (now kind) + length (now name)) ≤ length (now buf) ⌝ }
-    ensures { λ r. ⌜ Put (now (buf .entry)) 0 (byebyeText (now (kind .entry)) (now (name .entry))) (now (buf .exit)) r ⌝ }
+fn put_byebye(buf: &mut [u8], service: &[u8], name: &[u8]) -> usize
+    requires { ⌜ 152 + (length (now service) + length (now name)) ≤ length (now buf) ⌝ }
+    ensures { λ r. ⌜ Put (now (buf .entry)) 0 (byebyeText (now (service .entry)) (now (name .entry))) (now (buf .exit)) r ⌝ }
 {
     let a = put_notify(buf);
-    let b = put_header(buf, a, b"NT: ", kind);
+    let b = put_header(buf, a, b"NT: ", service);
     let c = put(buf, b, b"NTS: ssdp:byebye\r\n");
     let d = put_header(buf, c, b"USN: ", name);
     put(buf, d, &SERVER_AND_END)
@@ -134,11 +134,11 @@ fn missing_or_good(text: &[u8]) -> bool
 }
 
 // The refusal of three texts for a message of `besides` bytes more, in a buffer of `room` bytes. A message that lacks a text hands in an empty one.
-fn refusal_of(kind: &[u8], name: &[u8], location: &[u8], besides: usize, room: usize) -> u32
+fn refusal_of(service: &[u8], name: &[u8], location: &[u8], besides: usize, room: usize) -> u32
     requires { ⌜ besides ≤ 163 ⌝ }
-    ensures { λ r. ⌜ r ≡ buildRefusal (locatedTexts (now (kind .entry)) (now (name .entry)) (now (location .entry))) (besides + (length (now (kind .entry)) + (length (now (name .entry)) + length (now (location .entry))))) room ⌝ }
+    ensures { λ r. ⌜ r ≡ buildRefusal (locatedTexts (now (service .entry)) (now (name .entry)) (now (location .entry))) (besides + (length (now (service .entry)) + (length (now (name .entry)) + length (now (location .entry))))) room ⌝ }
 {
-    if TYPE_MAX < kind.len() {
+    if TYPE_MAX < service.len() {
         return TEXT_OVER_SIZE;
     }
     if NAME_MAX < name.len() {
@@ -147,7 +147,7 @@ fn refusal_of(kind: &[u8], name: &[u8], location: &[u8], besides: usize, room: u
     if LOCATION_MAX < location.len() {
         return TEXT_OVER_SIZE;
     }
-    if !good::is_good(kind) {
+    if !good::is_good(service) {
         return TEXT_NOT_GOOD;
     }
     if !missing_or_good(name) {
@@ -156,7 +156,7 @@ fn refusal_of(kind: &[u8], name: &[u8], location: &[u8], besides: usize, room: u
     if !missing_or_good(location) {
         return TEXT_NOT_GOOD;
     }
-    if room < besides + (kind.len() + (name.len() + location.len())) {
+    if room < besides + (service.len() + (name.len() + location.len())) {
         return BUFFER_SHORT;
     }
     ACCEPTED

@@ -120,11 +120,11 @@ fn notify_of(s: &[u8], nts: Header, nt: Header, usn: Header, location: Header) -
     let Header::At(place) = nts else {
         return Parsed::Invalid;
     };
-    let kind = field(s, place);
-    if bytes::equal(kind, b"ssdp:alive") {
+    let nts = field(s, place);
+    if bytes::equal(nts, b"ssdp:alive") {
         return alive_of(nt, usn, location);
     }
-    if bytes::equal(kind, b"ssdp:byebye") {
+    if bytes::equal(nts, b"ssdp:byebye") {
         return byebye_of(nt, usn);
     }
     Parsed::Invalid

@@ -48,10 +48,10 @@ fn advertise(
     outbox: &mut [u8],
 ) -> Answer {
     let mut name = io::buffer();
-    let mut kind = io::buffer();
+    let mut service = io::buffer();
     let mut location = io::buffer();
     let a = recorded::bytes(recorded::field(line, 6), &mut name);
-    let b = recorded::bytes(recorded::field(line, 7), &mut kind);
+    let b = recorded::bytes(recorded::field(line, 7), &mut service);
     let c = recorded::bytes(recorded::field(line, 8), &mut location);
     calls::advertise(
         head,
@@ -59,7 +59,7 @@ fn advertise(
         numbers,
         texts,
         &name[..a],
-        &kind[..b],
+        &service[..b],
         &location[..c],
         outbox,
     )

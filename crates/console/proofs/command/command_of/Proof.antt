@@ -8,8 +8,8 @@ use Rattle.console.specs.declared.command.Command.the-variants.{Unreadab
 use Rattle.console.proofs.command.command_of.Statement.{statement}
 use Rattle.console.proofs.command.command_of.Tie as tie
 
-kinds-of-requires : tie.Need-kinds-of-requires
-kinds-of-requires c κs = search needs
+forms-of-requires : tie.Need-forms-of-requires
+forms-of-requires c κs = search needs
 
 data-at-requires : tie.Need-data-at-requires
 data-at-requires c κs = search needs
@@ -25,7 +25,7 @@ returns c =
     let w = c .before .before .before in
     let d = w .before in
     let s = d .before .before .before .args in
-    let read = read-by (s .line .now) (s .at) (s .word) (d .before .kinds-of .ensures) (d .data-at .ensures) (w .is-whole .ensures) in
+    let read = read-by (s .line .now) (s .at) (s .word) (d .before .forms-of .ensures) (d .data-at .ensures) (w .is-whole .ensures) in
     c .built-of .ensures ∙ sym (read ∙ ap (λ (t : Bool). cond t (built (s .word) (d .data-at .result)) Unreadable) (c .before .if1 .taken))
 
 returns-2 : tie.Need-returns-2
@@ -33,14 +33,14 @@ returns-2 c =
     let w = c .before .before in
     let d = w .before in
     let s = d .before .before .before .args in
-    let read = read-by (s .line .now) (s .at) (s .word) (d .before .kinds-of .ensures) (d .data-at .ensures) (w .is-whole .ensures) in
+    let read = read-by (s .line .now) (s .at) (s .word) (d .before .forms-of .ensures) (d .data-at .ensures) (w .is-whole .ensures) in
     sym (read ∙ ap (λ (t : Bool). cond t (built (s .word) (d .data-at .result)) Unreadable) (c .if1 .left))
 
 pub command-of-spec : {M : Type 1} → statement M
 command-of-spec =
     tie.close
     (tie.spec
-    kinds-of-requires
+    forms-of-requires
     data-at-requires
     is-whole-requires
     built-of-requires

@@ -22,7 +22,7 @@ field-at-requires-5 c κs = search needs
 returns : tie.Need-returns
 returns c =
     let s = c .before .before .before .before .before .before .args in
-    in-a-row (s .line .now) (s .at) (s .kinds) (c .before .before .before .before .field-at .ensures) (c .before .before .before .field-at2 .ensures) (c .before .before .field-at3 .ensures) (c .before .field-at4 .ensures)
+    in-a-row (s .line .now) (s .at) (s .forms) (c .before .before .before .before .field-at .ensures) (c .before .before .before .field-at2 .ensures) (c .before .before .field-at3 .ensures) (c .before .field-at4 .ensures)
     (c .field-at5 .ensures)
 
 pub data-at-spec : {M : Type 1} → statement M

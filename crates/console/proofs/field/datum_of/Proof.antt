@@ -1,8 +1,8 @@
--- `datum_of` meets its contract: kind by kind.
+-- `datum_of` meets its contract: form by form.
 use mathlib.Core.Path.{sym, _∙_, ap}
 use borrow.Author.Needs.{needs}
 use Rattle.console.specs.Field.{datumOf, asU16, asU32, asU64}
-use Rattle.console.specs.declared.field.Kind.{Kind}
+use Rattle.console.specs.declared.field.Form.{Form}
 use Rattle.console.proofs.field.datum_of.Statement.{statement}
 use Rattle.console.proofs.field.datum_of.Tie as tie
 
@@ -27,8 +27,8 @@ u32-of-requires c κs = search needs
 u32-datum-requires : tie.Need-u32-datum-requires
 u32-datum-requires c κs = search needs
 
-enum-known-kind : tie.Need-enum-known-kind
-enum-known-kind c = search needs
+enum-known-form : tie.Need-enum-known-form
+enum-known-form c = search needs
 
 up-to-requires : tie.Need-up-to-requires
 up-to-requires c κs = search needs
@@ -51,8 +51,8 @@ enum-told-5 c = search needs
 enum-told-6 : tie.Need-enum-told-6
 enum-told-6 c = search needs
 
-enum-known-kind-2 : tie.Need-enum-known-kind-2
-enum-known-kind-2 c = search needs
+enum-known-form-2 : tie.Need-enum-known-form-2
+enum-known-form-2 c = search needs
 
 hex-part-requires : tie.Need-hex-part-requires
 hex-part-requires c κs = search needs
@@ -61,49 +61,49 @@ returns : tie.Need-returns
 unfolding datumOf
 returns c =
     let s = c .before .before .before .args in
-    sym (ap (λ (k : Kind). datumOf k (s .start) (s .text .now)) (c .enum-told .given .1))
+    sym (ap (λ (k : Form). datumOf k (s .start) (s .text .now)) (c .enum-told .given .1))
 
 returns-2 : tie.Need-returns-2
 unfolding datumOf
 returns-2 c =
     let s = c .before .before .before .before .before .args in
-    c .u16-datum .ensures ∙ ap asU16 (c .before .u16-of .ensures) ∙ sym (ap (λ (k : Kind). datumOf k (s .start) (s .text .now)) (c .before .before .enum-told2 .given .1))
+    c .u16-datum .ensures ∙ ap asU16 (c .before .u16-of .ensures) ∙ sym (ap (λ (k : Form). datumOf k (s .start) (s .text .now)) (c .before .before .enum-told2 .given .1))
 
 returns-3 : tie.Need-returns-3
 unfolding datumOf
 returns-3 c =
     let s = c .before .before .before .before .before .args in
-    c .u32-datum .ensures ∙ ap asU32 (c .before .u32-of .ensures) ∙ sym (ap (λ (k : Kind). datumOf k (s .start) (s .text .now)) (c .before .before .enum-told3 .given .1))
+    c .u32-datum .ensures ∙ ap asU32 (c .before .u32-of .ensures) ∙ sym (ap (λ (k : Form). datumOf k (s .start) (s .text .now)) (c .before .before .enum-told3 .given .1))
 
 returns-4 : tie.Need-returns-4
 unfolding datumOf
 returns-4 c =
     let s = c .before .before .before .before .before .before .args in
-    c .u64-datum .ensures ∙ ap asU64 (c .before .up-to .ensures) ∙ sym (ap (λ (k : Kind). datumOf k (s .start) (s .text .now)) (c .before .before .before .kind .given .1))
+    c .u64-datum .ensures ∙ ap asU64 (c .before .up-to .ensures) ∙ sym (ap (λ (k : Form). datumOf k (s .start) (s .text .now)) (c .before .before .before .form .given .1))
 
 returns-5 : tie.Need-returns-5
 unfolding datumOf
 returns-5 c =
     let s = c .before .before .before .before .before .args in
-    c .u32-datum2 .ensures ∙ ap asU32 (c .before .address-of .ensures) ∙ sym (ap (λ (k : Kind). datumOf k (s .start) (s .text .now)) (c .before .before .enum-told4 .given .1))
+    c .u32-datum2 .ensures ∙ ap asU32 (c .before .address-of .ensures) ∙ sym (ap (λ (k : Form). datumOf k (s .start) (s .text .now)) (c .before .before .enum-told4 .given .1))
 
 returns-6 : tie.Need-returns-6
 unfolding datumOf
 returns-6 c =
     let s = c .before .before .before .args in
-    sym (ap (λ (k : Kind). datumOf k (s .start) (s .text .now)) (c .enum-told5 .given .1))
+    sym (ap (λ (k : Form). datumOf k (s .start) (s .text .now)) (c .enum-told5 .given .1))
 
 returns-7 : tie.Need-returns-7
 unfolding datumOf
 returns-7 c =
     let s = c .before .before .before .args in
-    sym (ap (λ (k : Kind). datumOf k (s .start) (s .text .now)) (c .enum-told6 .given .1))
+    sym (ap (λ (k : Form). datumOf k (s .start) (s .text .now)) (c .enum-told6 .given .1))
 
 returns-8 : tie.Need-returns-8
 unfolding datumOf
 returns-8 c =
     let s = c .before .before .before .before .before .args in
-    c .hex-part .ensures ∙ sym (ap (λ (k : Kind). datumOf k (s .start) (s .text .now)) (c .before .before .kind2 .given .1))
+    c .hex-part .ensures ∙ sym (ap (λ (k : Form). datumOf k (s .start) (s .text .now)) (c .before .before .form2 .given .1))
 
 pub datum-of-spec : {M : Type 1} → statement M
 datum-of-spec =
@@ -116,7 +116,7 @@ datum-of-spec =
     enum-told-3
     u32-of-requires
     u32-datum-requires
-    enum-known-kind
+    enum-known-form
     up-to-requires
     u64-datum-requires
     enum-told-4
@@ -124,7 +124,7 @@ datum-of-spec =
     u32-datum-requires-2
     enum-told-5
     enum-told-6
-    enum-known-kind-2
+    enum-known-form-2
     hex-part-requires
     returns
     returns-2

@@ -1,4 +1,4 @@
--- `extent_of` meets its contract: by the kind.
+-- `extent_of` meets its contract: by the form.
 use mathlib.Core.Path.{sym, _∙_}
 use native.Mathlib.Omega.{arith}
 use borrow.Author.Needs.{needs}
@@ -13,7 +13,7 @@ is-rest-requires c κs = search needs
 returns : tie.Need-returns
 returns c =
     let s = c .before .before .before .args in
-    (extent-rest (s .kind) (s .rest .now) (sym (c .before .is-rest .ensures) ∙ c .if1 .taken), omega arith)
+    (extent-rest (s .form) (s .rest .now) (sym (c .before .is-rest .ensures) ∙ c .if1 .taken), omega arith)
 
 find-requires : tie.Need-find-requires
 find-requires c κs = search needs
@@ -21,7 +21,7 @@ find-requires c κs = search needs
 returns-2 : tie.Need-returns-2
 returns-2 c =
     let s = c .before .before .before .before .args in (
-      c .find .ensures ∙ extent-tab (s .kind) (s .rest .now) (sym (c .before .before .is-rest .ensures) ∙ c .before .if1 .left),
+      c .find .ensures ∙ extent-tab (s .form) (s .rest .now) (sym (c .before .before .is-rest .ensures) ∙ c .before .if1 .left),
       omega (arith, c .find .ensures, indexOf-le 9 (s .rest .now)),
     )
 

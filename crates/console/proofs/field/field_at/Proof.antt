@@ -14,12 +14,12 @@ is-nothing-requires c κs = search needs
 returns : tie.Need-returns
 returns c =
     let s = c .before .before .before .args in
-    field-none (s .line .now) (s .at) (s .kind) (sym (c .before .is-nothing .ensures) ∙ c .if1 .taken)
+    field-none (s .line .now) (s .at) (s .form) (sym (c .before .is-nothing .ensures) ∙ c .if1 .taken)
 
 returns-2 : tie.Need-returns-2
 returns-2 c =
     let s = c .before .before .before .before .args in
-    field-missing (s .line .now) (s .at) (s .kind) (sym (c .before .before .is-nothing .ensures) ∙ c .before .if1 .left) (c .if2 .taken)
+    field-missing (s .line .now) (s .at) (s .form) (sym (c .before .before .is-nothing .ensures) ∙ c .before .if1 .left) (c .if2 .taken)
 
 sub-rest : tie.Need-sub-rest
 sub-rest c = search needs
@@ -55,7 +55,7 @@ returns-3 : tie.Need-returns-3
 returns-3 c =
     let e = c .before .before in
     let s = e .before .before .before .before .before .before .args in
-    field-there (s .line .now) (s .at) (s .kind) (sym (e .before .before .before .before .is-nothing .ensures) ∙ e .before .before .before .if1 .left) (e .before .before .if2 .left)
+    field-there (s .line .now) (s .at) (s .form) (sym (e .before .before .before .before .is-nothing .ensures) ∙ e .before .before .before .if1 .left) (e .before .before .if2 .left)
     (tail (s .line .now) (s .at)) (e .extent-of .ensures .0) (c .datum-of .ensures)
 
 pub field-at-spec : {M : Type 1} → statement M

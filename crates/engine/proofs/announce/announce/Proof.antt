@@ -32,7 +32,7 @@ same-length c = search needs
 returns : tie.Need-returns
 returns c =
     let a = c .before .before .before .before .before .before .before .before .before .before .args in
-    of (ap (λ (w : Announcement). announced w (a .kind .now) (a .name .now) (a .location .now) (a .source) ∷ []) (sym (c .before .before .before .before .enum-told .given .1)))
+    of (ap (λ (w : Announcement). announced w (a .service .now) (a .name .now) (a .location .now) (a .source) ∷ []) (sym (c .before .before .before .before .enum-told .given .1)))
     (c .before .before .search-on .ensures)
 
 same-length-2 : tie.Need-same-length-2
@@ -41,7 +41,7 @@ same-length-2 c = search needs
 returns-2 : tie.Need-returns-2
 returns-2 c =
     let a = c .before .before .before .before .before .before .before .before .before .before .args in
-    of (ap (λ (w : Announcement). announced w (a .kind .now) (a .name .now) (a .location .now) (a .source) ∷ []) (sym (c .before .before .before .before .enum-told2 .given .1)))
+    of (ap (λ (w : Announcement). announced w (a .service .now) (a .name .now) (a .location .now) (a .source) ∷ []) (sym (c .before .before .before .before .enum-told2 .given .1)))
     (c .before .before .notify-on .ensures)
 
 same-length-3 : tie.Need-same-length-3
@@ -50,7 +50,7 @@ same-length-3 c = search needs
 returns-3 : tie.Need-returns-3
 returns-3 c =
     let a = c .before .before .before .before .before .before .before .before .before .before .args in
-    of (ap (λ (w : Announcement). announced w (a .kind .now) (a .name .now) (a .location .now) (a .source) ∷ []) (sym (c .before .before .before .before .enum-told3 .given .1)))
+    of (ap (λ (w : Announcement). announced w (a .service .now) (a .name .now) (a .location .now) (a .source) ∷ []) (sym (c .before .before .before .before .enum-told3 .given .1)))
     (c .before .before .byebye-on .ensures)
 
 pub announce-spec : {M : Type 1} → statement M

@@ -15,11 +15,11 @@ use Rattle.engine.proofs.announce.announce_on_all.Statement.{statement}
 use Rattle.engine.proofs.announce.announce_on_all.Tie as tie
 
 abbrev Inv-loop : tie.InvT-loop
-Inv-loop outbox₀ k n what kind name location up m at₀ i₀ outbox at i =
-    Run (λ source. announced what kind name location source ∷ []) up m outbox₀ k outbox at i
+Inv-loop outbox₀ k n what service name location up m at₀ i₀ outbox at i =
+    Run (λ source. announced what service name location source ∷ []) up m outbox₀ k outbox at i
 
 abbrev μ-loop : tie.MeasureT-loop
-μ-loop outbox₀ k n what kind name location up m at₀ i₀ outbox at i = m - i
+μ-loop outbox₀ k n what service name location up m at₀ i₀ outbox at i = m - i
 
 least-requires : tie.Need-least-requires Inv-loop μ-loop
 least-requires c κs = search needs
@@ -38,7 +38,7 @@ announce-requires c κs =
     let s = c .before .before .before .before .before .before .before .before in
     let a = s .args in
     let size : length (a .t3) ≡ sourcesMax = s .good .1 .1 .0 .1 .0 .1 in
-    let all = runs.each (a .t3) (a .n) _ size (c .before .before .before .least .ensures) (announced (a .what) (a .kind .now) (a .name .now) (a .location .now)) in
+    let all = runs.each (a .t3) (a .n) _ size (c .before .before .before .least .ensures) (announced (a .what) (a .service .now) (a .name .now) (a .location .now)) in
     (runs.more 0 all (s .pre .0) (omega arith) (omega arith) (c .before .before .loop .inv), s .pre .1)
 
 add-i : tie.Need-add-i Inv-loop μ-loop
@@ -61,7 +61,7 @@ returns c =
     let s = c .before .before .before .before .before .before .before in
     let a = s .args in
     let size : length (a .t3) ≡ sourcesMax = s .good .1 .1 .0 .1 .0 .1 in
-    let all = runs.each (a .t3) (a .n) _ size (c .before .before .least .ensures) (announced (a .what) (a .kind .now) (a .name .now) (a .location .now)) in
+    let all = runs.each (a .t3) (a .n) _ size (c .before .before .least .ensures) (announced (a .what) (a .service .now) (a .name .now) (a .location .now)) in
     runs.end all (omega arith) (c .before .loop .inv)
 
 pub announce-on-all-spec : {M : Type 1} → statement M

@@ -4,7 +4,7 @@ use mathlib.Core.List.{[]}
 use Rattle.engine.proofs.Accepted.{passed}
 use Rattle.engine.specs.Arrays.{headPlaces, held, linksIn, numbersSize, engine, textsSize}
 use Rattle.engine.specs.Calls.{Deadvertise, acts}
-use Rattle.engine.specs.Engine.{namesOf, tells, turned}
+use Rattle.engine.specs.Engine.{namesOf, notifies, refusalOf}
 use Rattle.engine.specs.Links.{contextAfter, upAddresses}
 use Rattle.engine.specs.Records.{records}
 use Rattle.engine.specs.Refusals.{checks}
@@ -26,7 +26,7 @@ refused-requires : tie.Need-refused-requires
 refused-requires c κs = search needs
 
 returns : tie.Need-returns
-unfolding turned namesOf
+unfolding refusalOf namesOf
 returns c searches =
     let at-if1 = c .before .before .before .before .before in
     let at-of-room = at-if1 .before in
@@ -83,7 +83,7 @@ same-length : tie.Need-same-length
 same-length c = c .before .before .before .before .before .before .before .before .before .before .before .before .before .before .before .before .before .before .byebye-if .kept .0
 
 returns-2 : tie.Need-returns-2
-unfolding turned namesOf held contextAfter acts results records tells result checks
+unfolding refusalOf namesOf held contextAfter acts results records notifies result checks
 returns-2 c searches =
     let at-set-count = c .before .before .before .before .before .before in
     let at-leave = at-set-count .before .before in

@@ -3,7 +3,7 @@ use mathlib.Core.Path.{_∙_, _≡_, sym}
 use mathlib.Core.List.{[]}
 use Rattle.engine.specs.Arrays.{headPlaces, held, engine}
 use Rattle.engine.specs.Calls.{DeletedAddress, acts}
-use Rattle.engine.specs.Engine.{namesOf, tells, turned}
+use Rattle.engine.specs.Engine.{namesOf, notifies, refusalOf}
 use Rattle.engine.specs.Links.{contextAfter}
 use Rattle.engine.specs.Records.{records}
 use Rattle.engine.specs.Replies.{results}
@@ -22,15 +22,15 @@ refused-requires : tie.Need-refused-requires
 refused-requires c κs = search needs
 
 returns : tie.Need-returns
-unfolding turned
+unfolding refusalOf
 returns c searches texts =
     let at-if1 = c .before .before .before .before in
     let at-of-deleted-address = at-if1 .before in
     let a = at-of-deleted-address .before .before .args in
     lending.refused-answers (engine (a .head .now) (a .links .now) searches (a .numbers .now) texts) (DeletedAddress (a .index) (a .address .now)) [] _ (at-of-deleted-address .of-deleted-address .result) (sym (at-of-deleted-address .of-deleted-address .ensures _ _)) (at-if1 .if1 .taken) (c .refused .ensures _ searches texts)
 
-held-at-requires : tie.Need-held-at-requires
-held-at-requires c κs = search needs
+lookup-requires : tie.Need-lookup-requires
+lookup-requires c κs = search needs
 
 address-gone-requires : tie.Need-address-gone-requires
 address-gone-requires c κs = search needs
@@ -45,17 +45,17 @@ accepted-requires : tie.Need-accepted-requires
 accepted-requires c κs = search needs
 
 returns-2 : tie.Need-returns-2
-unfolding turned namesOf held contextAfter acts results records tells
+unfolding refusalOf namesOf held contextAfter acts results records notifies
 returns-2 c searches texts =
     let at-set-count = c .before .before .before .before .before in
     let at-address-gone = at-set-count .before .before in
-    let at-held-at = at-address-gone .before .before .before .before in
-    let at-if1 = at-held-at .before .before .before .before .before in
+    let at-lookup = at-address-gone .before .before .before .before in
+    let at-if1 = at-lookup .before .before .before .before .before in
     let at-of-deleted-address = at-if1 .before in
     let a = at-of-deleted-address .before .before .args in
     let size : length (a .head .now) ≡ headPlaces = omega arith in
     lending.done-answers (engine (a .head .now) (a .links .now) searches (a .numbers .now) texts) _ (DeletedAddress (a .index) (a .address .now)) 0 _ _ (sym (at-of-deleted-address .of-deleted-address .ensures _ _) ∙ at-if1 .if1 .left)
-    (lending.links-changed (a .head .now) (a .links .now) searches (a .numbers .now) texts size (at-address-gone .address-gone .result) _ (at-set-count .set-count .ensures) (at-address-gone .address-gone .ensures (a .index) (at-held-at .held-at .ensures)))
+    (lending.links-changed (a .head .now) (a .links .now) searches (a .numbers .now) texts size (at-address-gone .address-gone .result) _ (at-set-count .set-count .ensures) (at-address-gone .address-gone .ensures (a .index) (at-lookup .lookup .ensures)))
     (c .before .nothing .ensures .0) (c .before .nothing .ensures .1) answering.sent-none (c .accepted .ensures _ searches texts)
 
 pub deleted-address-spec : {M : Type 1} → statement M
@@ -65,7 +65,7 @@ deleted-address-spec =
     of-deleted-address-requires
     refused-requires
     returns
-    held-at-requires
+    lookup-requires
     address-gone-requires
     set-count-requires
     nothing-requires

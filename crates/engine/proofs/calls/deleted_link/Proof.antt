@@ -4,11 +4,11 @@ use mathlib.Core.Bool.{Bool, cond}
 use mathlib.Core.List.{[]}
 use Rattle.engine.specs.Arrays.{headPlaces, held, engine}
 use Rattle.engine.specs.Calls.{DeletedLink, acts}
-use Rattle.engine.specs.Engine.{namesOf, tells, turned}
+use Rattle.engine.specs.Engine.{namesOf, notifies, refusalOf}
 use Rattle.engine.specs.Links.{contextAfter}
 use Rattle.engine.specs.Records.{records}
 use Rattle.engine.specs.Replies.{results}
-use Rattle.engine.specs.Tallies.{leaves}
+use Rattle.engine.specs.Outcomes.{leaves}
 use borrow.Author.Needs.{needs}
 use lib.ListN.{length}
 use native.Mathlib.Omega.{arith}
@@ -24,7 +24,7 @@ refused-requires : tie.Need-refused-requires
 refused-requires c κs = search needs
 
 returns : tie.Need-returns
-unfolding turned
+unfolding refusalOf
 returns c searches texts =
     let at-if1 = c .before .before .before .before in
     let at-of-deleted-link = at-if1 .before in
@@ -34,8 +34,8 @@ returns c searches texts =
 spot-of-requires : tie.Need-spot-of-requires
 spot-of-requires c κs = search needs
 
-left-requires : tie.Need-left-requires
-left-requires c κs = search needs
+removed-requires : tie.Need-removed-requires
+removed-requires c κs = search needs
 
 set-count-requires : tie.Need-set-count-requires
 set-count-requires c κs = search needs
@@ -47,7 +47,7 @@ accepted-requires : tie.Need-accepted-requires
 accepted-requires c κs = search needs
 
 returns-2 : tie.Need-returns-2
-unfolding turned namesOf held contextAfter acts results records tells
+unfolding refusalOf namesOf held contextAfter acts results records notifies
 returns-2 c searches texts =
     let at-set-count = c .before .before .before .before .before in
     let at-left = at-set-count .before .before in
@@ -57,7 +57,7 @@ returns-2 c searches texts =
     let a = at-of-deleted-link .before .args in
     let size : length (a .head .now) ≡ headPlaces = omega arith in
     lending.done-answers (engine (a .head .now) (a .links .now) searches (a .numbers .now) texts) _ (DeletedLink (a .index) (a .outcome)) 0 _ _ (sym (at-of-deleted-link .of-deleted-link .ensures _ _ _) ∙ at-if1 .if1 .left)
-    (lending.links-changed (a .head .now) (a .links .now) searches (a .numbers .now) texts size (at-left .left .result) _ (at-set-count .set-count .ensures) (at-left .left .ensures))
+    (lending.links-changed (a .head .now) (a .links .now) searches (a .numbers .now) texts size (at-left .removed .result) _ (at-set-count .set-count .ensures) (at-left .removed .ensures))
     (c .before .leaving .ensures .0) (c .before .leaving .ensures .1 ∙ ap (λ (b : Bool). leaves (cond b (a .outcome) 0)) (at-spot-of .spot-of .ensures .known)) answering.sent-none (c .accepted .ensures _ searches texts)
 
 pub deleted-link-spec : {M : Type 1} → statement M
@@ -68,7 +68,7 @@ deleted-link-spec =
     refused-requires
     returns
     spot-of-requires
-    left-requires
+    removed-requires
     set-count-requires
     leaving-requires
     accepted-requires

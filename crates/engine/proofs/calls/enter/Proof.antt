@@ -30,7 +30,7 @@ returns c =
     let at-count-of = at-if1 .before in
     let start = at-count-of .before .before .before .before .before .before .before in
     let a = start .args in
-    lending.entered-over (a .head .now) (a .numbers .now) (a .texts .now) (a .name .now) (a .spot) (start .pre .2) (at-count-of .count-of .result) (at-count-of .count-of .ensures) _ _ (a .kind .now) (a .location .now) (at-if1 .if1 .taken) (at-put-over .put-over .ensures)
+    lending.entered-over (a .head .now) (a .numbers .now) (a .texts .now) (a .name .now) (a .spot) (start .pre .2) (at-count-of .count-of .result) (at-count-of .count-of .ensures) _ _ (a .service .now) (a .location .now) (at-if1 .if1 .taken) (at-put-over .put-over .ensures)
 
 put-in-requires : tie.Need-put-in-requires
 put-in-requires c κs =
@@ -60,7 +60,7 @@ returns-2 c =
     let a = start .args in
     let free = (lending.spot-free (a .head .now) (a .numbers .now) (a .texts .now) (a .name .now) (a .spot) (start .pre .2) (start .pre .6) (at-if1 .if1 .left)) in
     let count = at-count-of .count-of .ensures in
-    lending.entered-in (a .head .now) (a .numbers .now) (a .texts .now) (a .name .now) (a .spot) (start .pre .2) (at-count-of .count-of .result) (at-count-of .count-of .ensures) _ _ (a .kind .now) (a .location .now) (at-if1 .if1 .left) (omega arith) (at-put-in .put-in .ensures)
+    lending.entered-in (a .head .now) (a .numbers .now) (a .texts .now) (a .name .now) (a .spot) (start .pre .2) (at-count-of .count-of .result) (at-count-of .count-of .ensures) _ _ (a .service .now) (a .location .now) (at-if1 .if1 .left) (omega arith) (at-put-in .put-in .ensures)
 
 pub enter-spec : {M : Type 1} → statement M
 enter-spec =

@@ -7,7 +7,7 @@ use Rattle.engine.proofs.NothingDue.{idle-done, idle-counts, idle-sent}
 use Rattle.engine.proofs.Timer.{timer-accepted}
 use Rattle.engine.specs.Arrays.{headPlaces, held, linksIn, namesIn, searchesIn, seedIn, engine, timerIn}
 use Rattle.engine.specs.Calls.{Timeout, acts}
-use Rattle.engine.specs.Engine.{namesOf, poll, tells, turned}
+use Rattle.engine.specs.Engine.{namesOf, poll, notifies, refusalOf}
 use Rattle.engine.specs.Held.{Advertisement, holding}
 use Rattle.engine.specs.Links.{contextAfter}
 use Rattle.engine.specs.Records.{records, refreshRecords, timeoutOn}
@@ -15,7 +15,7 @@ use Rattle.engine.specs.RefreshTimer.{timerStep}
 use Rattle.engine.specs.Refusals.{checks}
 use Rattle.engine.specs.Replies.{aloneAt, groupAt, result, results, sumOf}
 use Rattle.engine.specs.Sizes.{outboxSize, timeMax}
-use Rattle.engine.specs.Tallies.{sends}
+use Rattle.engine.specs.Outcomes.{sends}
 use Rattle.engine.specs.declared.answer.Answer.{Answer}
 use Rattle.engine.specs.declared.refresh_timer.RefreshTimer.{RefreshTimer}
 use borrow.Author.Needs.{needs}
@@ -35,7 +35,7 @@ refused-requires : tie.Need-refused-requires
 refused-requires c κs = search needs
 
 returns : tie.Need-returns
-unfolding turned namesOf
+unfolding refusalOf namesOf
 returns c =
     let at-if1 = c .before .before .before .before .before in
     let at-of-timeout = at-if1 .before in
@@ -49,7 +49,7 @@ accepted-requires : tie.Need-accepted-requires
 accepted-requires c κs = search needs
 
 returns-2 : tie.Need-returns-2
-unfolding turned namesOf tells
+unfolding refusalOf namesOf notifies
 returns-2 c =
     let at-accepted = c .before .before in
     let at-nothing = at-accepted .before in
@@ -100,7 +100,7 @@ same-length : tie.Need-same-length
 same-length c = c .before .before .before .before .before .before .before .before .before .before .before .before .before .before .before .send-timeout .kept .0
 
 returns-3 : tie.Need-returns-3
-unfolding turned namesOf held contextAfter acts results records tells result checks refreshRecords
+unfolding refusalOf namesOf held contextAfter acts results records notifies result checks refreshRecords
 returns-3 c =
     let at-set-timer = c .before .before .before .before .before .before in
     let at-rolled = at-set-timer .before in

@@ -6,7 +6,7 @@ use Prim.Native.Nat.{_≤_}
 use Rattle.engine.proofs.Accepted.{passed}
 use Rattle.engine.specs.Arrays.{headPlaces, held, linksIn, namesIn, searchesIn, engine}
 use Rattle.engine.specs.Calls.{NewAddress, acts}
-use Rattle.engine.specs.Engine.{namesOf, tells, turned}
+use Rattle.engine.specs.Engine.{namesOf, notifies, refusalOf}
 use Rattle.engine.specs.Links.{contextAfter}
 use Rattle.engine.specs.Records.{addressRecords, allFrom, records}
 use Rattle.engine.specs.Refusals.{checks}
@@ -21,8 +21,8 @@ use Rattle.engine.proofs.Lending as lending
 use Rattle.engine.proofs.calls.new_address.Statement.{statement}
 use Rattle.engine.proofs.calls.new_address.Tie as tie
 
-held-at-requires : tie.Need-held-at-requires
-held-at-requires c κs = search needs
+lookup-requires : tie.Need-lookup-requires
+lookup-requires c κs = search needs
 
 is-stored-requires : tie.Need-is-stored-requires
 is-stored-requires c κs = search needs
@@ -37,15 +37,15 @@ refused-requires : tie.Need-refused-requires
 refused-requires c κs = search needs
 
 returns : tie.Need-returns
-unfolding turned namesOf held
+unfolding refusalOf namesOf held
 returns c =
     let at-if1 = c .before .before .before .before in
     let at-of-new-address = at-if1 .before in
     let at-count-of = at-of-new-address .before in
     let at-is-stored = at-count-of .before in
-    let at-held-at = at-is-stored .before .before in
-    let a = at-held-at .before .before .before .before .before .before .before .args in
-    lending.refused-answers (engine (a .head .now) (a .links .now) (a .searches .now) (a .numbers .now) (a .texts .now)) (NewAddress (a .index) (a .address .now) (length (a .outbox .now))) _ _ (at-of-new-address .of-new-address .result) (sym (at-of-new-address .of-new-address .ensures _ _ (sym (at-is-stored .is-stored .ensures (a .index) (linksIn (a .head .now) (a .links .now)) (at-held-at .held-at .ensures))) (sym (at-count-of .count-of .ensures ∙ ap length (at-held-at .held-at .ensures .addresses))) refl)) (at-if1 .if1 .taken) (c .refused .ensures _ _ _)
+    let at-lookup = at-is-stored .before .before in
+    let a = at-lookup .before .before .before .before .before .before .before .args in
+    lending.refused-answers (engine (a .head .now) (a .links .now) (a .searches .now) (a .numbers .now) (a .texts .now)) (NewAddress (a .index) (a .address .now) (length (a .outbox .now))) _ _ (at-of-new-address .of-new-address .result) (sym (at-of-new-address .of-new-address .ensures _ _ (sym (at-is-stored .is-stored .ensures (a .index) (linksIn (a .head .now) (a .links .now)) (at-lookup .lookup .ensures))) (sym (at-count-of .count-of .ensures ∙ ap length (at-lookup .lookup .ensures .addresses))) refl)) (at-if1 .if1 .taken) (c .refused .ensures _ _ _)
 
 number-of-requires : tie.Need-number-of-requires
 number-of-requires c κs = search needs
@@ -58,16 +58,16 @@ send-if-stored-requires c κs =
     let at-of-new-address = at-if1 .before in
     let at-count-of = at-of-new-address .before in
     let at-is-stored = at-count-of .before in
-    let at-held-at = at-is-stored .before .before in
-    let a = at-held-at .before .before .before .before .before .before .before .args in
+    let at-lookup = at-is-stored .before .before in
+    let a = at-lookup .before .before .before .before .before .before .before .args in
     let t = engine (a .head .now) (a .links .now) (a .searches .now) (a .numbers .now) (a .texts .now) in
     let call = NewAddress (a .index) (a .address .now) (length (a .outbox .now)) in
-    let p = passed (held t .context) (namesOf (held t) call) call (sym (at-of-new-address .of-new-address .ensures _ _ (sym (at-is-stored .is-stored .ensures (a .index) (linksIn (a .head .now) (a .links .now)) (at-held-at .held-at .ensures))) (sym (at-count-of .count-of .ensures ∙ ap length (at-held-at .held-at .ensures .addresses))) refl) ∙ at-if1 .if1 .left) in
+    let p = passed (held t .context) (namesOf (held t) call) call (sym (at-of-new-address .of-new-address .ensures _ _ (sym (at-is-stored .is-stored .ensures (a .index) (linksIn (a .head .now) (a .links .now)) (at-lookup .lookup .ensures))) (sym (at-count-of .count-of .ensures ∙ ap length (at-lookup .lookup .ensures .addresses))) refl) ∙ at-if1 .if1 .left) in
     let room : outboxSize ≤ length (a .outbox .now) = omega (arith, ltb-false (length (a .outbox .now)) outboxSize (p .0)) in
     ((omega (arith, at-send-if-stored-arg3 .send-if-stored-arg3 .given .0), omega (arith, c .before .before .send-if-stored-arg4 .given .0)), (omega (arith, c .before .send-if-stored-arg5 .given .0), omega (arith, c .send-if-stored-arg6 .given .0)), room)
 
-address-told-requires : tie.Need-address-told-requires
-address-told-requires c κs = search needs
+address-stored-requires : tie.Need-address-stored-requires
+address-stored-requires c κs = search needs
 
 set-count-requires : tie.Need-set-count-requires
 set-count-requires c κs = search needs
@@ -82,38 +82,38 @@ same-length : tie.Need-same-length
 same-length c = search needs
 
 returns-2 : tie.Need-returns-2
-unfolding turned namesOf held contextAfter acts results records tells checks addressRecords
+unfolding refusalOf namesOf held contextAfter acts results records notifies checks addressRecords
 returns-2 c =
     let at-set-count = c .before .before .before .before .before in
-    let at-address-told = at-set-count .before .before in
-    let at-send-if-stored = at-address-told .before .before .before .before .before .before in
+    let at-address-stored = at-set-count .before .before in
+    let at-send-if-stored = at-address-stored .before .before .before .before .before .before in
     let at-number-of = at-send-if-stored .before .before .before .before .before .before .before .before in
     let at-if1 = at-number-of .before in
     let at-of-new-address = at-if1 .before in
     let at-count-of = at-of-new-address .before in
     let at-is-stored = at-count-of .before in
-    let at-held-at = at-is-stored .before .before in
-    let at-held-at-arg2 = at-held-at .before .before .before in
-    let a = at-held-at-arg2 .before .before .before .before .args in
-    let size : length (a .head .now) ≡ headPlaces = omega (arith, at-held-at-arg2 .held-at-arg2 .given .0) in
+    let at-lookup = at-is-stored .before .before in
+    let at-lookup-arg2 = at-lookup .before .before .before in
+    let a = at-lookup-arg2 .before .before .before .before .args in
+    let size : length (a .head .now) ≡ headPlaces = omega (arith, at-lookup-arg2 .lookup-arg2 .given .0) in
     let t = engine (a .head .now) (a .links .now) (a .searches .now) (a .numbers .now) (a .texts .now) in
     let call = NewAddress (a .index) (a .address .now) (length (a .outbox .now)) in
-    let number = sym (at-of-new-address .of-new-address .ensures _ _ (sym (at-is-stored .is-stored .ensures (a .index) (linksIn (a .head .now) (a .links .now)) (at-held-at .held-at .ensures))) (sym (at-count-of .count-of .ensures ∙ ap length (at-held-at .held-at .ensures .addresses))) refl) ∙ at-if1 .if1 .left in
+    let number = sym (at-of-new-address .of-new-address .ensures _ _ (sym (at-is-stored .is-stored .ensures (a .index) (linksIn (a .head .now) (a .links .now)) (at-lookup .lookup .ensures))) (sym (at-count-of .count-of .ensures ∙ ap length (at-lookup .lookup .ensures .addresses))) refl) ∙ at-if1 .if1 .left in
     let p = passed (held t .context) (namesOf (held t) call) call number in
     let links = linksIn (a .head .now) (a .links .now) in
     let sends = allFrom (searchesIn (a .head .now) (a .searches .now)) (namesIn (a .head .now) (a .numbers .now) (a .texts .now)) in
     lending.done-answers t _ call (at-send-if-stored .send-if-stored .result) _ _ number
-    (lending.links-changed (a .head .now) (a .links .now) (a .searches .now) (a .numbers .now) (a .texts .now) size (at-address-told .address-told .result) _ (at-set-count .set-count .ensures) (at-address-told .address-told .ensures (a .index) (at-held-at .held-at .ensures) (p .1 .1 .1 .0)))
+    (lending.links-changed (a .head .now) (a .links .now) (a .searches .now) (a .numbers .now) (a .texts .now) size (at-address-stored .address-stored .result) _ (at-set-count .set-count .ensures) (at-address-stored .address-stored .ensures (a .index) (at-lookup .lookup .ensures) (p .1 .1 .1 .0)))
     (c .before .nothing .ensures .0) (c .before .nothing .ensures .1)
     (answering.sent-as (at-send-if-stored .send-if-stored .ensures)
-    (λ i. cond (at-is-stored .is-stored .ensures (a .index) links (at-held-at .held-at .ensures) i && at-held-at .held-at .ensures .up i) (sends (at-number-of .number-of .ensures i)) []))
+    (λ i. cond (at-is-stored .is-stored .ensures (a .index) links (at-lookup .lookup .ensures) i && at-lookup .lookup .ensures .up i) (sends (at-number-of .number-of .ensures i)) []))
     (c .accepted .ensures _ _ _)
 
 pub new-address-spec : {M : Type 1} → statement M
 new-address-spec =
     tie.close
     (tie.spec
-    held-at-requires
+    lookup-requires
     is-stored-requires
     count-of-requires
     of-new-address-requires
@@ -121,7 +121,7 @@ new-address-spec =
     returns
     number-of-requires
     send-if-stored-requires
-    address-told-requires
+    address-stored-requires
     set-count-requires
     nothing-requires
     accepted-requires

@@ -6,7 +6,7 @@ use Prim.Native.Nat.{_≤_, ℕ}
 use Rattle.engine.proofs.Accepted.{passed}
 use Rattle.engine.specs.Arrays.{headPlaces, held, linksIn, namesIn, searchesIn, engine}
 use Rattle.engine.specs.Calls.{NewLink, acts}
-use Rattle.engine.specs.Engine.{namesOf, tells, turned}
+use Rattle.engine.specs.Engine.{namesOf, notifies, refusalOf}
 use Rattle.engine.specs.Links.{contextAfter}
 use Rattle.engine.specs.Records.{addressRecords, allFrom, flat, records, turnsUp}
 use Rattle.engine.specs.Refusals.{checks}
@@ -21,8 +21,8 @@ use Rattle.engine.proofs.Lending as lending
 use Rattle.engine.proofs.calls.new_link.Statement.{statement}
 use Rattle.engine.proofs.calls.new_link.Tie as tie
 
-held-at-requires : tie.Need-held-at-requires
-held-at-requires c κs = search needs
+lookup-requires : tie.Need-lookup-requires
+lookup-requires c κs = search needs
 
 is-multicast-requires : tie.Need-is-multicast-requires
 is-multicast-requires c κs = search needs
@@ -37,15 +37,15 @@ refused-requires : tie.Need-refused-requires
 refused-requires c κs = search needs
 
 returns : tie.Need-returns
-unfolding turned namesOf held
+unfolding refusalOf namesOf held
 returns c =
     let at-if1 = c .before .before .before .before in
     let at-of-new-link = at-if1 .before in
     let at-count-of = at-of-new-link .before in
     let at-is-multicast = at-count-of .before .before .before in
-    let at-held-at = at-is-multicast .before in
-    let a = at-held-at .before .before .before .before .before .before .args in
-    lending.refused-answers (engine (a .head .now) (a .links .now) (a .searches .now) (a .numbers .now) (a .texts .now)) (NewLink (a .index) (a .flags) (a .outcome) (length (a .outbox .now))) _ _ (at-of-new-link .of-new-link .result) (sym (at-of-new-link .of-new-link .ensures _ _ (a .flags) (sym (at-is-multicast .is-multicast .ensures)) (sym (at-held-at .held-at .ensures .known)) (lending.links-length (a .head .now) (a .links .now) ∙ sym (at-count-of .count-of .ensures)) refl)) (at-if1 .if1 .taken) (c .refused .ensures _ _ _)
+    let at-lookup = at-is-multicast .before in
+    let a = at-lookup .before .before .before .before .before .before .args in
+    lending.refused-answers (engine (a .head .now) (a .links .now) (a .searches .now) (a .numbers .now) (a .texts .now)) (NewLink (a .index) (a .flags) (a .outcome) (length (a .outbox .now))) _ _ (at-of-new-link .of-new-link .result) (sym (at-of-new-link .of-new-link .ensures _ _ (a .flags) (sym (at-is-multicast .is-multicast .ensures)) (sym (at-lookup .lookup .ensures .known)) (lending.links-length (a .head .now) (a .links .now) ∙ sym (at-count-of .count-of .ensures)) refl)) (at-if1 .if1 .taken) (c .refused .ensures _ _ _)
 
 turns-up-requires : tie.Need-turns-up-requires
 turns-up-requires c κs = search needs
@@ -58,16 +58,16 @@ send-if-up-requires c κs =
     let at-of-new-link = at-if1 .before in
     let at-count-of = at-of-new-link .before in
     let at-is-multicast = at-count-of .before .before .before in
-    let at-held-at = at-is-multicast .before in
-    let a = at-held-at .before .before .before .before .before .before .args in
+    let at-lookup = at-is-multicast .before in
+    let a = at-lookup .before .before .before .before .before .before .args in
     let t = engine (a .head .now) (a .links .now) (a .searches .now) (a .numbers .now) (a .texts .now) in
     let call = NewLink (a .index) (a .flags) (a .outcome) (length (a .outbox .now)) in
-    let p = passed (held t .context) (namesOf (held t) call) call (sym (at-of-new-link .of-new-link .ensures _ _ (a .flags) (sym (at-is-multicast .is-multicast .ensures)) (sym (at-held-at .held-at .ensures .known)) (lending.links-length (a .head .now) (a .links .now) ∙ sym (at-count-of .count-of .ensures)) refl) ∙ at-if1 .if1 .left) in
+    let p = passed (held t .context) (namesOf (held t) call) call (sym (at-of-new-link .of-new-link .ensures _ _ (a .flags) (sym (at-is-multicast .is-multicast .ensures)) (sym (at-lookup .lookup .ensures .known)) (lending.links-length (a .head .now) (a .links .now) ∙ sym (at-count-of .count-of .ensures)) refl) ∙ at-if1 .if1 .left) in
     let room : outboxSize ≤ length (a .outbox .now) = omega (arith, ltb-false (length (a .outbox .now)) outboxSize (p .0)) in
     ((omega (arith, at-send-if-up-arg3 .send-if-up-arg3 .given .0), omega (arith, c .before .before .send-if-up-arg4 .given .0)), (omega (arith, c .before .send-if-up-arg5 .given .0), omega (arith, c .send-if-up-arg6 .given .0)), room)
 
-link-told-requires : tie.Need-link-told-requires
-link-told-requires c κs = search needs
+link-stored-requires : tie.Need-link-stored-requires
+link-stored-requires c κs = search needs
 
 set-count-requires : tie.Need-set-count-requires
 set-count-requires c κs = search needs
@@ -82,39 +82,39 @@ same-length : tie.Need-same-length
 same-length c = search needs
 
 returns-2 : tie.Need-returns-2
-unfolding turned namesOf held contextAfter acts results records tells checks addressRecords
+unfolding refusalOf namesOf held contextAfter acts results records notifies checks addressRecords
 returns-2 c =
     let at-set-count = c .before .before .before .before .before in
-    let at-link-told = at-set-count .before .before in
-    let at-send-if-up = at-link-told .before .before .before .before .before .before in
+    let at-link-stored = at-set-count .before .before in
+    let at-send-if-up = at-link-stored .before .before .before .before .before .before in
     let at-turns-up = at-send-if-up .before .before .before .before .before .before .before in
     let at-if1 = at-turns-up .before .before .before in
     let at-of-new-link = at-if1 .before in
     let at-count-of = at-of-new-link .before in
     let at-is-multicast = at-count-of .before .before .before in
-    let at-held-at = at-is-multicast .before in
-    let at-held-at-arg2 = at-held-at .before .before .before in
-    let a = at-held-at-arg2 .before .before .before .args in
-    let size : length (a .head .now) ≡ headPlaces = omega (arith, at-held-at-arg2 .held-at-arg2 .given .0) in
+    let at-lookup = at-is-multicast .before in
+    let at-lookup-arg2 = at-lookup .before .before .before in
+    let a = at-lookup-arg2 .before .before .before .args in
+    let size : length (a .head .now) ≡ headPlaces = omega (arith, at-lookup-arg2 .lookup-arg2 .given .0) in
     let t = engine (a .head .now) (a .links .now) (a .searches .now) (a .numbers .now) (a .texts .now) in
     let call = NewLink (a .index) (a .flags) (a .outcome) (length (a .outbox .now)) in
-    let number = sym (at-of-new-link .of-new-link .ensures _ _ (a .flags) (sym (at-is-multicast .is-multicast .ensures)) (sym (at-held-at .held-at .ensures .known)) (lending.links-length (a .head .now) (a .links .now) ∙ sym (at-count-of .count-of .ensures)) refl) ∙ at-if1 .if1 .left in
+    let number = sym (at-of-new-link .of-new-link .ensures _ _ (a .flags) (sym (at-is-multicast .is-multicast .ensures)) (sym (at-lookup .lookup .ensures .known)) (lending.links-length (a .head .now) (a .links .now) ∙ sym (at-count-of .count-of .ensures)) refl) ∙ at-if1 .if1 .left in
     let p = passed (held t .context) (namesOf (held t) call) call number in
     let links = linksIn (a .head .now) (a .links .now) in
     let sends = flat (allFrom (searchesIn (a .head .now) (a .searches .now)) (namesIn (a .head .now) (a .numbers .now) (a .texts .now))) in
     lending.done-answers t _ call (at-send-if-up .send-if-up .result) _ _ number
-    (lending.links-changed (a .head .now) (a .links .now) (a .searches .now) (a .numbers .now) (a .texts .now) size (at-link-told .link-told .result) _ (at-set-count .set-count .ensures) (at-link-told .link-told .ensures (a .index) (at-held-at .held-at .ensures) (p .1 .1 .0)))
+    (lending.links-changed (a .head .now) (a .links .now) (a .searches .now) (a .numbers .now) (a .texts .now) size (at-link-stored .link-stored .result) _ (at-set-count .set-count .ensures) (at-link-stored .link-stored .ensures (a .index) (at-lookup .lookup .ensures) (p .1 .1 .0)))
     (c .before .nothing .ensures .0) (c .before .nothing .ensures .1)
     (answering.sent-as (at-send-if-up .send-if-up .ensures)
-    (ap (λ (b : Bool). cond b (sends (take (at-held-at .held-at .result .link .count) (at-held-at .held-at .result .link .addresses))) []) (at-turns-up .turns-up .ensures (a .index) links (at-held-at .held-at .ensures))
-    ∙ ap (λ (l : List ℕ). cond (turnsUp (a .index) (a .flags) links) (sends l) []) (at-held-at .held-at .ensures .addresses)))
+    (ap (λ (b : Bool). cond b (sends (take (at-lookup .lookup .result .link .count) (at-lookup .lookup .result .link .addresses))) []) (at-turns-up .turns-up .ensures (a .index) links (at-lookup .lookup .ensures))
+    ∙ ap (λ (l : List ℕ). cond (turnsUp (a .index) (a .flags) links) (sends l) []) (at-lookup .lookup .ensures .addresses)))
     (c .accepted .ensures _ _ _)
 
 pub new-link-spec : {M : Type 1} → statement M
 new-link-spec =
     tie.close
     (tie.spec
-    held-at-requires
+    lookup-requires
     is-multicast-requires
     count-of-requires
     of-new-link-requires
@@ -122,7 +122,7 @@ new-link-spec =
     returns
     turns-up-requires
     send-if-up-requires
-    link-told-requires
+    link-stored-requires
     set-count-requires
     nothing-requires
     accepted-requires

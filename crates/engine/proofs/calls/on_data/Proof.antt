@@ -3,7 +3,7 @@ use mathlib.Core.Path.{_∙_, _≡_, ap, sym}
 use mathlib.Core.List.{[]}
 use Rattle.engine.specs.Arrays.{numbersSize, searchBytes, engine, textsSize}
 use Rattle.engine.specs.Calls.{Datagram}
-use Rattle.engine.specs.Engine.{turned}
+use Rattle.engine.specs.Engine.{refusalOf}
 use Rattle.message.specs.Parse.{ParseAnswer, answerOf, parsed, reads}
 use borrow.Author.Needs.{needs}
 use lib.ListN.{length}
@@ -17,7 +17,7 @@ refused-requires : tie.Need-refused-requires
 refused-requires c κs = search needs
 
 returns : tie.Need-returns
-unfolding turned
+unfolding refusalOf
 returns c links =
     let at-if1 = c .before .before .before .before in
     let a = at-if1 .before .before .args in
@@ -37,7 +37,7 @@ refused-requires-2 : tie.Need-refused-requires-2
 refused-requires-2 c κs = search needs
 
 returns-2 : tie.Need-returns-2
-unfolding turned
+unfolding refusalOf
 returns-2 c links =
     let at-match = c .before .before .before .before .before in
     let at-parse = at-match .before in

@@ -4,13 +4,13 @@ use mathlib.Core.List.{List}
 use Prim.Native.Nat.{ℕ}
 use Rattle.engine.specs.Arrays.{held, linksIn, namesIn, searchesIn, seedIn, engine, timerIn}
 use Rattle.engine.specs.Calls.{Act, Datagram, acts}
-use Rattle.engine.specs.Engine.{tells, tellsAbout, turned}
+use Rattle.engine.specs.Engine.{notifies, notifiesAbout, refusalOf}
 use Rattle.engine.specs.Held.{holding}
 use Rattle.engine.specs.Links.{contextAfter}
 use Rattle.engine.specs.Reading.{typeOf}
 use Rattle.engine.specs.Records.{records}
 use Rattle.engine.specs.Replies.{results}
-use Rattle.engine.specs.Tallies.{tellsMask}
+use Rattle.engine.specs.Outcomes.{notifiesMask}
 use Rattle.message.specs.Parse.{fieldAt}
 use borrow.Author.Needs.{needs}
 use Rattle.engine.proofs.Answering as answering
@@ -28,14 +28,14 @@ field-requires c κs = search needs
 told-of-requires : tie.Need-told-of-requires
 told-of-requires c κs = search needs
 
-telling-requires : tie.Need-telling-requires
-telling-requires c κs = search needs
+notifying-requires : tie.Need-notifying-requires
+notifying-requires c κs = search needs
 
 accepted-requires : tie.Need-accepted-requires
 accepted-requires c κs = search needs
 
 returns : tie.Need-returns
-unfolding turned held contextAfter acts results records tells
+unfolding refusalOf held contextAfter acts results records notifies
 returns c links texts =
     let at-field = c .before .before .before in
     let at-type-of = at-field .before in
@@ -48,9 +48,9 @@ returns c links texts =
     let none = sym (m .asking (a .time) (a .sender) (a .receiver)) in
     lending.done-answers (engine (a .head .now) links (a .searches .now) (a .numbers .now) texts) (engine (a .head .now) links (a .searches .now) (a .numbers .now) texts) (Datagram (a .time) (a .sender) (a .receiver) (a .datagram .now)) 0 _ _ (hearing.notice-refusal _ _ (a .time) (a .sender) (a .receiver) (a .datagram .now) (typeOf (a .said)) (start .pre .2) m)
     (ap (λ (l : List Act). holding (seedIn head) (timerIn head) (linksIn head links) subs (results (seedIn head) names l .advertisements)) none)
-    (c .before .telling .ensures .0 ∙ ap (λ (l : List Act). results (seedIn head) names l .counts) none)
-    (c .before .telling .ensures .1 ∙ ap (λ (x : ℕ). tellsMask x (c .before .before .told-of .result .told)) (c .before .before .told-of .ensures .mask) ∙ ap (tellsMask _) (c .before .before .told-of .ensures .told)
-    ∙ ap (tellsAbout subs) (at-field .field .ensures ∙ ap (fieldAt (a .datagram .now)) (at-type-of .type-of .ensures)) ∙ sym (m .telling subs))
+    (c .before .notifying .ensures .0 ∙ ap (λ (l : List Act). results (seedIn head) names l .counts) none)
+    (c .before .notifying .ensures .1 ∙ ap (λ (x : ℕ). notifiesMask x (c .before .before .told-of .result .told)) (c .before .before .told-of .ensures .mask) ∙ ap (notifiesMask _) (c .before .before .told-of .ensures .told)
+    ∙ ap (notifiesAbout subs) (at-field .field .ensures ∙ ap (fieldAt (a .datagram .now)) (at-type-of .type-of .ensures)) ∙ sym (m .notifying subs))
     answering.sent-none (c .accepted .ensures links _ texts)
 
 pub on-notice-spec : {M : Type 1} → statement M
@@ -60,6 +60,6 @@ on-notice-spec =
     type-of-requires
     field-requires
     told-of-requires
-    telling-requires
+    notifying-requires
     accepted-requires
     returns)

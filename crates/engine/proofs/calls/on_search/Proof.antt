@@ -4,13 +4,13 @@ use mathlib.Core.List.{List, [], _∷_}
 use Rattle.engine.proofs.Accepted.{Passed, passed}
 use Rattle.engine.specs.Arrays.{held, linksIn, namesIn, searchesIn, seedIn, engine, timerIn}
 use Rattle.engine.specs.Calls.{Act, Asks, Datagram, Query, acts, asks as asked-by}
-use Rattle.engine.specs.Engine.{namesOf, tells, tellsOf, turned}
+use Rattle.engine.specs.Engine.{namesOf, notifies, notifiesOf, refusalOf}
 use Rattle.engine.specs.Held.{Advertisement, Text, holding}
 use Rattle.engine.specs.Links.{contextAfter}
 use Rattle.engine.specs.Records.{records}
 use Rattle.engine.specs.Refusals.{checks, searchChecks}
 use Rattle.engine.specs.Replies.{result, results}
-use Rattle.engine.specs.Tallies.{asks}
+use Rattle.engine.specs.Outcomes.{asks}
 use Rattle.message.specs.Build.{typeMax}
 use Rattle.message.specs.Parse.{ParseAnswer, fieldAt, parsed}
 use borrow.Author.Needs.{needs}
@@ -35,7 +35,7 @@ same-length : tie.Need-same-length
 same-length c = search needs
 
 returns : tie.Need-returns
-unfolding turned
+unfolding refusalOf
 returns c links searches =
     let at-of-search = c .before .before .before in
     let at-field = at-of-search .before in
@@ -76,7 +76,7 @@ same-length-3 : tie.Need-same-length-3
 same-length-3 c = search needs
 
 returns-2 : tie.Need-returns-2
-unfolding turned held contextAfter acts result results records tells
+unfolding refusalOf held contextAfter acts result results records notifies
 returns-2 c links searches =
     let at-searched = c .before .before .before .before .before .before .before in
     let at-seed-in = at-searched .before in
@@ -102,7 +102,7 @@ returns-2 c links searches =
     (c .before .asking .ensures .0 ∙ (λ i. asks (r .matched i) (r .joined i))
     ∙ (λ i. asks (result (at i) names (Asks (query (f i))) .counts .matched) (result (at i) names (Asks (query (f i))) .counts .joined))
     ∙ sym (answering.plus-zeros (result seed names (Asks q) .counts)) ∙ ap (λ (l : List Act). results seed names l .counts) (sym does))
-    (c .before .asking .ensures .1 ∙ sym (ap (λ (p : ParseAnswer). tellsOf (searchesIn head searches) (a .datagram .now) (p .message)) (start .pre .3)))
+    (c .before .asking .ensures .1 ∙ sym (ap (λ (p : ParseAnswer). notifiesOf (searchesIn head searches) (a .datagram .now) (p .message)) (start .pre .3)))
     answering.sent-none (c .accepted .ensures links searches _)
 
 pub on-search-spec : {M : Type 1} → statement M

@@ -5,7 +5,7 @@ use Prim.Native.Nat.{_≤_, ℕ}
 use Rattle.engine.proofs.Accepted.{passed}
 use Rattle.engine.specs.Arrays.{held, namesIn, searchesIn, engine}
 use Rattle.engine.specs.Calls.{Refresh, acts}
-use Rattle.engine.specs.Engine.{namesOf, tells, turned}
+use Rattle.engine.specs.Engine.{namesOf, notifies, refusalOf}
 use Rattle.engine.specs.Links.{contextAfter}
 use Rattle.engine.specs.Records.{records, refreshOn, refreshRecords}
 use Rattle.engine.specs.Refusals.{checks}
@@ -27,7 +27,7 @@ refused-requires : tie.Need-refused-requires
 refused-requires c κs = search needs
 
 returns : tie.Need-returns
-unfolding turned namesOf
+unfolding refusalOf namesOf
 returns c =
     let at-if1 = c .before .before .before in
     let at-of-room = at-if1 .before in
@@ -59,7 +59,7 @@ same-length : tie.Need-same-length
 same-length c = search needs
 
 returns-2 : tie.Need-returns-2
-unfolding turned namesOf held contextAfter acts results records tells refreshRecords
+unfolding refusalOf namesOf held contextAfter acts results records notifies refreshRecords
 returns-2 c =
     let at-send-refresh = c .before .before .before .before .before .before in
     let at-of-up-links = at-send-refresh .before .before .before .before .before .before .before in

@@ -1,7 +1,7 @@
 -- `calls::refused` meets its contract: waiting and poll are those of what the arrays hold.
 use mathlib.Core.Path.{_∙_, ap}
 use Rattle.engine.specs.Calls.{zeros}
-use Rattle.engine.specs.Engine.{tellsNobody}
+use Rattle.engine.specs.Engine.{notifiesNobody}
 use Rattle.engine.specs.Replies.{soonest}
 use Rattle.engine.specs.Arrays.{engine, namesIn}
 use Rattle.engine.specs.declared.refresh_timer.RefreshTimer.{RefreshTimer}
@@ -19,7 +19,7 @@ waits-in-requires c κs = search needs
 returns : tie.Need-returns
 returns c links searches texts =
     let a = c .before .before .before .before .args in
-    lending.answer-of _ 0 zeros tellsNobody (engine _ links searches _ texts) _ _ (c .waits-in .ensures texts .0)
+    lending.answer-of _ 0 zeros notifiesNobody (engine _ links searches _ texts) _ _ (c .waits-in .ensures texts .0)
     (c .waits-in .ensures texts .1 ∙ ap (λ (x : RefreshTimer). soonest (x .«next_salvo») (namesIn (a .head .now) (a .numbers .now) texts)) (c .before .timer-in .ensures))
 
 pub refused-spec : {M : Type 1} → statement M

@@ -4,7 +4,7 @@ use mathlib.Core.List.{[]}
 use Rattle.engine.proofs.Timer.{timer-accepted}
 use Rattle.engine.specs.Arrays.{headPlaces, held, engine, timerIn}
 use Rattle.engine.specs.Calls.{ResetTimer, acts}
-use Rattle.engine.specs.Engine.{tells, turned}
+use Rattle.engine.specs.Engine.{notifies, refusalOf}
 use Rattle.engine.specs.Links.{contextAfter}
 use Rattle.engine.specs.Records.{records}
 use Rattle.engine.specs.RefreshTimer.{timerReset}
@@ -26,7 +26,7 @@ refused-requires : tie.Need-refused-requires
 refused-requires c κs = search needs
 
 returns : tie.Need-returns
-unfolding turned
+unfolding refusalOf
 returns c links searches texts =
     let at-if1 = c .before .before .before .before in
     let at-of-time = at-if1 .before in
@@ -50,7 +50,7 @@ accepted-requires : tie.Need-accepted-requires
 accepted-requires c κs = search needs
 
 returns-2 : tie.Need-returns-2
-unfolding turned held contextAfter acts results records tells
+unfolding refusalOf held contextAfter acts results records notifies
 returns-2 c links searches texts =
     let at-set-timer = c .before .before .before .before .before in
     let at-reset = at-set-timer .before .before in

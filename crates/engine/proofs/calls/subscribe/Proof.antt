@@ -5,7 +5,7 @@ use Prim.Native.Nat.{ℕ}
 use Rattle.engine.proofs.Accepted.{passed}
 use Rattle.engine.specs.Arrays.{headPlaces, held, engine}
 use Rattle.engine.specs.Calls.{Subscribe, acts}
-use Rattle.engine.specs.Engine.{namesOf, tells, turned}
+use Rattle.engine.specs.Engine.{namesOf, notifies, refusalOf}
 use Rattle.engine.specs.Links.{contextAfter}
 use Rattle.engine.specs.Records.{records, searchOn}
 use Rattle.engine.specs.Refusals.{checks}
@@ -31,13 +31,13 @@ refused-requires : tie.Need-refused-requires
 refused-requires c κs = search needs
 
 returns : tie.Need-returns
-unfolding turned namesOf held
+unfolding refusalOf namesOf held
 returns c texts =
     let at-if1 = c .before .before .before .before in
     let at-of-subscribe = at-if1 .before in
     let at-count-of = at-of-subscribe .before in
     let a = at-count-of .before .before .before .before .before .args in
-    lending.refused-answers (engine (a .head .now) (a .links .now) (a .searches .now) (a .numbers .now) texts) (Subscribe (a .kind .now) (length (a .outbox .now))) _ _ (at-of-subscribe .of-subscribe .result) (sym (at-of-subscribe .of-subscribe .ensures _ _ (lending.searches-length (a .head .now) (a .searches .now) ∙ sym (at-count-of .count-of .ensures)) refl)) (at-if1 .if1 .taken) (c .refused .ensures _ _ _)
+    lending.refused-answers (engine (a .head .now) (a .links .now) (a .searches .now) (a .numbers .now) texts) (Subscribe (a .service .now) (length (a .outbox .now))) _ _ (at-of-subscribe .of-subscribe .result) (sym (at-of-subscribe .of-subscribe .ensures _ _ (lending.searches-length (a .head .now) (a .searches .now) ∙ sym (at-count-of .count-of .ensures)) refl)) (at-if1 .if1 .taken) (c .refused .ensures _ _ _)
 
 of-up-links-requires : tie.Need-of-up-links-requires
 of-up-links-requires c κs = search needs
@@ -50,7 +50,7 @@ send-search-requires c κs =
     let at-count-of = at-of-subscribe .before in
     let a = at-count-of .before .before .before .before .before .args in
     let t = engine (a .head .now) (a .links .now) (a .searches .now) (a .numbers .now) [] in
-    let call = Subscribe (a .kind .now) (length (a .outbox .now)) in
+    let call = Subscribe (a .service .now) (length (a .outbox .now)) in
     let p = passed (held t .context) (namesOf (held t) call) call (sym (at-of-subscribe .of-subscribe .ensures _ _ (lending.searches-length (a .head .now) (a .searches .now) ∙ sym (at-count-of .count-of .ensures)) refl) ∙ at-if1 .if1 .left) in
     omega (arith, ltb-false (length (a .outbox .now)) outboxSize (p .0))
 
@@ -62,10 +62,10 @@ push-requires c κs =
     let at-count-of = at-of-subscribe .before in
     let a = at-count-of .before .before .before .before .before .args in
     let t = engine (a .head .now) (a .links .now) (a .searches .now) (a .numbers .now) [] in
-    let call = Subscribe (a .kind .now) (length (a .outbox .now)) in
+    let call = Subscribe (a .service .now) (length (a .outbox .now)) in
     let p = passed (held t .context) (namesOf (held t) call) call (sym (at-of-subscribe .of-subscribe .ensures _ _ (lending.searches-length (a .head .now) (a .searches .now) ∙ sym (at-count-of .count-of .ensures)) refl) ∙ at-if1 .if1 .left) in (
       lending.searches-free (a .head .now) (a .searches .now) (at-count-of .count-of .result) (at-count-of .count-of .ensures) (p .1 .1 .1 .0),
-      ltb-false typeMax (length (a .kind .now)) (p .1 .0),
+      ltb-false typeMax (length (a .service .now)) (p .1 .0),
       omega arith,
     )
 
@@ -85,7 +85,7 @@ same-length : tie.Need-same-length
 same-length c = search needs
 
 returns-2 : tie.Need-returns-2
-unfolding turned namesOf held contextAfter acts results records tells checks
+unfolding refusalOf namesOf held contextAfter acts results records notifies checks
 returns-2 c texts =
     let at-set-count = c .before .before .before .before .before in
     let at-push = at-set-count .before .before in
@@ -97,14 +97,14 @@ returns-2 c texts =
     let a = at-count-of .before .before .before .before .before .args in
     let size : length (a .head .now) ≡ headPlaces = omega arith in
     let t = engine (a .head .now) (a .links .now) (a .searches .now) (a .numbers .now) texts in
-    let call = Subscribe (a .kind .now) (length (a .outbox .now)) in
+    let call = Subscribe (a .service .now) (length (a .outbox .now)) in
     let number = sym (at-of-subscribe .of-subscribe .ensures _ _ (lending.searches-length (a .head .now) (a .searches .now) ∙ sym (at-count-of .count-of .ensures)) refl) ∙ at-if1 .if1 .left in
     let p = passed (held t .context) (namesOf (held t) call) call number in
     let free = lending.searches-free (a .head .now) (a .searches .now) (at-count-of .count-of .result) (at-count-of .count-of .ensures) (p .1 .1 .1 .0) in
     lending.done-answers t _ call (at-send-search .send-search .result) _ _ number
-    (lending.searches-pushed (a .head .now) (a .links .now) (a .searches .now) (a .numbers .now) texts size _ (at-count-of .count-of .result) (a .kind .now) (at-set-count .set-count .ensures) (at-count-of .count-of .ensures) free (at-push .push .ensures))
+    (lending.searches-pushed (a .head .now) (a .links .now) (a .searches .now) (a .numbers .now) texts size _ (at-count-of .count-of .result) (a .service .now) (at-set-count .set-count .ensures) (at-count-of .count-of .ensures) free (at-push .push .ensures))
     (c .before .nothing .ensures .0) (c .before .nothing .ensures .1)
-    (answering.sent-as (at-send-search .send-search .ensures) (ap (λ (l : List ℕ). searchOn l (a .kind .now)) (at-of-up-links .of-up-links .ensures .held)))
+    (answering.sent-as (at-send-search .send-search .ensures) (ap (λ (l : List ℕ). searchOn l (a .service .now)) (at-of-up-links .of-up-links .ensures .held)))
     (c .accepted .ensures _ _ _)
 
 pub subscribe-spec : {M : Type 1} → statement M

@@ -25,7 +25,7 @@ same-length : tie.Need-same-length
 same-length c = search needs
 
 returns : tie.Need-returns
-returns c = names.new-numbers (c .args .row .now) (c .args .name-len) (c .args .kind-len) (c .args .location-len) (c .pre)
+returns c = names.new-numbers (c .args .row .now) (c .args .name-len) (c .args .service-len) (c .args .location-len) (c .pre)
 
 pub fill-numbers-spec : {M : Type 1} → statement M
 fill-numbers-spec =

@@ -20,7 +20,7 @@ same-length c = search needs
 returns : tie.Need-returns
 returns c =
     let s = c .before .before .before .before .before .before .before .before .before .before .before .before .before .before .before .before in
-    names.new-texts (s .args .row .now) _ _ _ (s .args .name .now) (s .args .kind .now) (s .args .location .now) (s .pre .0)
+    names.new-texts (s .args .row .now) _ _ _ (s .args .name .now) (s .args .service .now) (s .args .location .now) (s .pre .0)
     (omega (arith, c .before .before .before .before .before .before .before .before .before .row .given)) (omega (arith, c .before .before .before .before .before .before .before .before .before .row .given, c .before .before .before .before .before .row2 .given)) (omega (arith, c .before .before .before .before .before .before .before .before .before .row .given, c .before .before .before .before .before .row2 .given, c .before .row3 .given))
     (omega arith) (omega arith) (omega arith) (c .before .before .before .before .before .before .before .before .before .before .put .ensures) (c .before .before .before .before .before .before .put2 .ensures) (c .before .before .put3 .ensures)
 

@@ -62,7 +62,7 @@ same-length-2 c = search needs
 returns : tie.Need-returns
 returns c =
     let s = c .before .before .before .before .before .before .before .before .before .before .before .before .before .before .before .before .args in
-    names.new-row (s .i) (s .numbers .now) (s .texts .now) (c .before .before .before .before .before .before .fill-numbers .last .0) (c .before .before .fill-texts .last .0) (s .name .now) (s .kind .now) (s .location .now)
+    names.new-row (s .i) (s .numbers .now) (s .texts .now) (c .before .before .before .before .before .before .fill-numbers .last .0) (c .before .before .fill-texts .last .0) (s .name .now) (s .service .now) (s .location .now)
     (omega (arith, c .before .before .before .before .before .numbers .given)) (omega (arith, c .before .texts .given)) (c .before .before .before .before .before .before .before .before .before .number-of .ensures) (c .before .before .before .before .before .before .before .before .number-of2 .ensures) (c .before .before .before .before .before .before .before .number-of3 .ensures)
     (c .before .before .before .before .before .before .fill-numbers .ensures) (c .before .before .fill-texts .ensures)
 

@@ -33,7 +33,7 @@ size-of-requires c κs = search needs
 returns : tie.Need-returns
 returns c =
     let s = c .before .before .before .before .before in
-    (refl, (λ j. take (c .size-of .ensures j) (c .before .before .field-at .ensures j)) ∙ names.kind-at (s .args .i) (s .args .numbers .now) (s .args .texts .now) (s .pre .0) (s .pre .1 .1))
+    (refl, (λ j. take (c .size-of .ensures j) (c .before .before .field-at .ensures j)) ∙ names.service-at (s .args .i) (s .args .numbers .now) (s .args .texts .now) (s .pre .0) (s .pre .1 .1))
 
 pub own-type-at-spec : {M : Type 1} → statement M
 own-type-at-spec =

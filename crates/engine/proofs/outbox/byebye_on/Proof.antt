@@ -28,7 +28,7 @@ frame-requires : tie.Need-frame-requires
 frame-requires c κs =
     let s = c .before .before .before .before .before .before .before .before in
     let a = s .args in
-    frame-room (ByeByeFrom (a .source) (a .kind .now) (a .name .now)) (a .k) (a .outbox .now) (s .pre) (c .before .before .before .build-byebye .ensures) refl
+    frame-room (ByeByeFrom (a .source) (a .service .now) (a .name .now)) (a .k) (a .outbox .now) (s .pre) (c .before .before .before .build-byebye .ensures) refl
 
 add-result : tie.Need-add-result
 add-result c = search needs
@@ -40,7 +40,7 @@ returns : tie.Need-returns
 returns c =
     let s = c .before .before .before .before .before .before .before .before .before .before .before in
     let a = s .args in
-    sent (ByeByeFrom (a .source) (a .kind .now) (a .name .now)) (a .k) (a .outbox .now) (s .pre) (c .before .before .before .before .before .before .build-byebye .ensures) refl (c .before .before .frame .ensures)
+    sent (ByeByeFrom (a .source) (a .service .now) (a .name .now)) (a .k) (a .outbox .now) (s .pre) (c .before .before .before .before .before .before .build-byebye .ensures) refl (c .before .before .frame .ensures)
 
 pub byebye-on-spec : {M : Type 1} → statement M
 byebye-on-spec =

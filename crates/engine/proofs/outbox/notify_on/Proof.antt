@@ -42,8 +42,8 @@ frame-requires : tie.Need-frame-requires
 frame-requires c κs =
     let s = c .before .before .before .before .before .before .before .before .before .before .before .before .before in
     let a = s .args in
-    frame-room (NotifyFrom (a .source) (a .kind .now) (a .name .now) (a .location .now)) (a .k) (a .outbox .now) (s .pre .0)
-    (located (notifyText (a .kind .now) (a .name .now)) (c .before .before .before .before .before .before .before .rewrite-host .ensures .front) (c .before .before .before .build-notify .ensures)) refl
+    frame-room (NotifyFrom (a .source) (a .service .now) (a .name .now) (a .location .now)) (a .k) (a .outbox .now) (s .pre .0)
+    (located (notifyText (a .service .now) (a .name .now)) (c .before .before .before .before .before .before .before .rewrite-host .ensures .front) (c .before .before .before .build-notify .ensures)) refl
 
 add-result : tie.Need-add-result
 add-result c = search needs
@@ -55,8 +55,8 @@ returns : tie.Need-returns
 returns c =
     let s = c .before .before .before .before .before .before .before .before .before .before .before .before .before .before .before .before in
     let a = s .args in
-    sent (NotifyFrom (a .source) (a .kind .now) (a .name .now) (a .location .now)) (a .k) (a .outbox .now) (s .pre .0)
-    (located (notifyText (a .kind .now) (a .name .now)) (c .before .before .before .before .before .before .before .before .before .before .rewrite-host .ensures .front) (c .before .before .before .before .before .before .build-notify .ensures)) refl (c .before .before .frame .ensures)
+    sent (NotifyFrom (a .source) (a .service .now) (a .name .now) (a .location .now)) (a .k) (a .outbox .now) (s .pre .0)
+    (located (notifyText (a .service .now) (a .name .now)) (c .before .before .before .before .before .before .before .before .before .before .rewrite-host .ensures .front) (c .before .before .before .before .before .before .build-notify .ensures)) refl (c .before .before .frame .ensures)
 
 pub notify-on-spec : {M : Type 1} → statement M
 notify-on-spec =

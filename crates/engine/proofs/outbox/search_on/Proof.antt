@@ -27,7 +27,7 @@ build-search-requires c κs = search needs
 frame-requires : tie.Need-frame-requires
 frame-requires c κs =
     let s = c .before .before .before .before .before .before .before in
-    frame-room (SearchFrom (s .args .source) (s .args .kind .now)) (s .args .k) (s .args .outbox .now) (s .pre) (c .before .before .before .build-search .ensures) refl
+    frame-room (SearchFrom (s .args .source) (s .args .service .now)) (s .args .k) (s .args .outbox .now) (s .pre) (c .before .before .before .build-search .ensures) refl
 
 add-result : tie.Need-add-result
 add-result c = search needs
@@ -38,7 +38,7 @@ same-length c = search needs
 returns : tie.Need-returns
 returns c =
     let s = c .before .before .before .before .before .before .before .before .before .before in
-    sent (SearchFrom (s .args .source) (s .args .kind .now)) (s .args .k) (s .args .outbox .now) (s .pre)
+    sent (SearchFrom (s .args .source) (s .args .service .now)) (s .args .k) (s .args .outbox .now) (s .pre)
     (c .before .before .before .before .before .before .build-search .ensures) refl (c .before .before .frame .ensures)
 
 pub search-on-spec : {M : Type 1} → statement M

@@ -42,8 +42,8 @@ frame-requires : tie.Need-frame-requires
 frame-requires c κs =
     let s = c .before .before .before .before .before .before .before .before .before .before .before .before .before in
     let a = s .args in
-    frame-room (ResponseFrom (a .source) (a .to) (a .kind .now) (a .name .now) (a .location .now)) (a .k) (a .outbox .now) (s .pre .0)
-    (located (responseText (a .kind .now) (a .name .now)) (c .before .before .before .before .before .before .before .rewrite-host .ensures .front) (c .before .before .before .build-response .ensures)) refl
+    frame-room (ResponseFrom (a .source) (a .to) (a .service .now) (a .name .now) (a .location .now)) (a .k) (a .outbox .now) (s .pre .0)
+    (located (responseText (a .service .now) (a .name .now)) (c .before .before .before .before .before .before .before .rewrite-host .ensures .front) (c .before .before .before .build-response .ensures)) refl
 
 add-result : tie.Need-add-result
 add-result c = search needs
@@ -55,8 +55,8 @@ returns : tie.Need-returns
 returns c =
     let s = c .before .before .before .before .before .before .before .before .before .before .before .before .before .before .before .before in
     let a = s .args in
-    sent (ResponseFrom (a .source) (a .to) (a .kind .now) (a .name .now) (a .location .now)) (a .k) (a .outbox .now) (s .pre .0)
-    (located (responseText (a .kind .now) (a .name .now)) (c .before .before .before .before .before .before .before .before .before .before .rewrite-host .ensures .front) (c .before .before .before .before .before .before .build-response .ensures)) refl (c .before .before .frame .ensures)
+    sent (ResponseFrom (a .source) (a .to) (a .service .now) (a .name .now) (a .location .now)) (a .k) (a .outbox .now) (s .pre .0)
+    (located (responseText (a .service .now) (a .name .now)) (c .before .before .before .before .before .before .before .before .before .before .rewrite-host .ensures .front) (c .before .before .before .before .before .before .build-response .ensures)) refl (c .before .before .frame .ensures)
 
 pub send-response-spec : {M : Type 1} → statement M
 send-response-spec =

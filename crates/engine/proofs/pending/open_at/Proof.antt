@@ -27,7 +27,7 @@ returns c =
     λ n h m.
     let a = c .before .before .before .before .before .before .before .before .before .before .before .before .before .args in
     let own = c .before .before .before .before .before .before .before .own-type-at .ensures in
-    c .before .before .before .before .store-active .ensures n h m ∙ own-type (a .i) (entryAt (a .i) (a .numbers .now) (a .texts .now) .kind) (take (a .opened .«answer_len») (a .opened .answer)) (a .opened .«response_needed») (entries n (a .numbers .now) (a .texts .now)) (own .0) (own .1) (c .before .before .before .before .before .before .before .before .before .before .if1 .taken)
+    c .before .before .before .before .store-active .ensures n h m ∙ own-type (a .i) (entryAt (a .i) (a .numbers .now) (a .texts .now) .service) (take (a .opened .«answer_len») (a .opened .answer)) (a .opened .«response_needed») (entries n (a .numbers .now) (a .texts .now)) (own .0) (own .1) (c .before .before .before .before .before .before .before .before .before .before .if1 .taken)
 
 same-length-3 : tie.Need-same-length-3
 same-length-3 c = search needs
@@ -39,7 +39,7 @@ returns-2 : tie.Need-returns-2
 returns-2 c =
     λ n h m.
     let a = c .before .before .before .before .before .before .before .before .before .before .args in
-    c .before .before .before .before .store-active2 .ensures n h m ∙ target-type (a .i) (entryAt (a .i) (a .numbers .now) (a .texts .now) .kind) (take (a .opened .«answer_len») (a .opened .answer)) (a .opened .«response_needed») (entries n (a .numbers .now) (a .texts .now)) (c .before .before .before .before .before .before .before .if1 .left)
+    c .before .before .before .before .store-active2 .ensures n h m ∙ target-type (a .i) (entryAt (a .i) (a .numbers .now) (a .texts .now) .service) (take (a .opened .«answer_len») (a .opened .answer)) (a .opened .«response_needed») (entries n (a .numbers .now) (a .texts .now)) (c .before .before .before .before .before .before .before .if1 .left)
 
 pub open-at-spec : {M : Type 1} → statement M
 open-at-spec =

@@ -18,8 +18,8 @@ announce-on-all-requires : tie.Need-announce-on-all-requires
 announce-on-all-requires c κs =
     let s = c .before .before .before .before .before in
     let a = s .args in
-    let few = mapped-most (announced Alive (a .kind .now) (a .name .now) (a .location .now)) (a .up) (a .n) (up-size s) in
-    (room-all (a .outbox .now) (announcedOn (take (a .n) (a .up)) Alive (a .kind .now) (a .name .now) (a .location .now)) (s .pre .0) (omega arith), s .pre .1)
+    let few = mapped-most (announced Alive (a .service .now) (a .name .now) (a .location .now)) (a .up) (a .n) (up-size s) in
+    (room-all (a .outbox .now) (announcedOn (take (a .n) (a .up)) Alive (a .service .now) (a .name .now) (a .location .now)) (s .pre .0) (omega arith), s .pre .1)
 
 same-length : tie.Need-same-length
 same-length c = search needs

@@ -18,7 +18,7 @@ announce-name-requires c κs =
     let s = c .before .before .before .before in
     let a = s .args in
     let e = entryAt (a .i) (a .numbers .now) (a .texts .now) in
-    (s .pre .0, s .pre .1, announced-room (a .outbox .now) (s .pre .2) (a .up) (a .n) (λ source. ByeByeFrom source (e .kind) (e .name)) (up-size s))
+    (s .pre .0, s .pre .1, announced-room (a .outbox .now) (s .pre .2) (a .up) (a .n) (λ source. ByeByeFrom source (e .service) (e .name)) (up-size s))
 
 same-length : tie.Need-same-length
 same-length c = search needs

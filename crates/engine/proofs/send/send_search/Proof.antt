@@ -22,8 +22,8 @@ up-size s = s .good .1 .0 .1 .0 .1
 announce-on-all-requires : tie.Need-announce-on-all-requires
 announce-on-all-requires c κs =
     let s = c .before .before .before .before .before in
-    let few = mapped-most (λ source. SearchFrom source (s .args .kind .now)) (s .args .up) (s .args .n) (up-size s) in
-    (room-all (s .args .outbox .now) (searchOn (take (s .args .n) (s .args .up)) (s .args .kind .now)) (s .pre) (omega arith), omega arith)
+    let few = mapped-most (λ source. SearchFrom source (s .args .service .now)) (s .args .up) (s .args .n) (up-size s) in
+    (room-all (s .args .outbox .now) (searchOn (take (s .args .n) (s .args .up)) (s .args .service .now)) (s .pre) (omega arith), omega arith)
 
 same-length : tie.Need-same-length
 same-length c = search needs

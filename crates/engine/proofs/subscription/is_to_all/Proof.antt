@@ -7,14 +7,14 @@ use borrow.Author.Needs.{needs}
 use Rattle.engine.proofs.subscription.is_to_all.Statement.{statement}
 use Rattle.engine.proofs.subscription.is_to_all.Tie as tie
 
-kind-at-requires : tie.Need-kind-at-requires
-kind-at-requires c κs = search needs
+service-at-requires : tie.Need-service-at-requires
+service-at-requires c κs = search needs
 
 is-all-requires : tie.Need-is-all-requires
 is-all-requires c κs = search needs
 
 returns : tie.Need-returns
-returns c = c .is-all .ensures ∙ ap (λ (x : Text). equal x ssdpAll) (c .before .kind-at .ensures)
+returns c = c .is-all .ensures ∙ ap (λ (x : Text). equal x ssdpAll) (c .before .service-at .ensures)
 
 pub is-to-all-spec : {M : Type 1} → statement M
-is-to-all-spec = tie.close (tie.spec kind-at-requires is-all-requires returns)
+is-to-all-spec = tie.close (tie.spec service-at-requires is-all-requires returns)

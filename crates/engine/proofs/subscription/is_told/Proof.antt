@@ -6,8 +6,8 @@ use borrow.Author.Needs.{needs}
 use Rattle.engine.proofs.subscription.is_told.Statement.{statement}
 use Rattle.engine.proofs.subscription.is_told.Tie as tie
 
-kind-at-requires : tie.Need-kind-at-requires
-kind-at-requires c κs = search needs
+service-at-requires : tie.Need-service-at-requires
+service-at-requires c κs = search needs
 
 target-match-requires : tie.Need-target-match-requires
 target-match-requires c κs = search needs
@@ -15,7 +15,7 @@ target-match-requires c κs = search needs
 returns : tie.Need-returns
 returns c =
     let s = c .before .before .before .before .args in
-    c .target-match .ensures ∙ ap (λ (x : Text). targetMatch x (s .kind .now)) (c .before .kind-at .ensures)
+    c .target-match .ensures ∙ ap (λ (x : Text). targetMatch x (s .service .now)) (c .before .service-at .ensures)
 
 pub is-told-spec : {M : Type 1} → statement M
-is-told-spec = tie.close (tie.spec kind-at-requires target-match-requires returns)
+is-told-spec = tie.close (tie.spec service-at-requires target-match-requires returns)

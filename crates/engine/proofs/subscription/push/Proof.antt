@@ -13,17 +13,17 @@ mul-a c = search needs
 add-e : tie.Need-add-e
 add-e c = search needs
 
-sub-set-kind : tie.Need-sub-set-kind
-sub-set-kind c = search needs
+sub-set-service : tie.Need-sub-set-service
+sub-set-service c = search needs
 
-part-set-kind-start : tie.Need-part-set-kind-start
-part-set-kind-start c = search needs
+part-set-service-start : tie.Need-part-set-service-start
+part-set-service-start c = search needs
 
-part-set-kind-end : tie.Need-part-set-kind-end
-part-set-kind-end c = search needs
+part-set-service-end : tie.Need-part-set-service-end
+part-set-service-end c = search needs
 
-set-kind-requires : tie.Need-set-kind-requires
-set-kind-requires c κs = search needs
+set-service-requires : tie.Need-set-service-requires
+set-service-requires c κs = search needs
 
 same-length : tie.Need-same-length
 same-length c = search needs
@@ -31,7 +31,7 @@ same-length c = search needs
 returns : tie.Need-returns
 returns c =
     let s = c .before .before .before .before .before .before in
-    type-pushed (s .args .searches .now) (c .before .before .set-kind .last .0) (s .args .n) (searchWidth * s .args .n + searchWidth - searchWidth * s .args .n) (s .pre .0) (s .pre .2) (omega (arith, c .before .searches .given)) (omega arith) (c .before .before .set-kind .ensures)
+    type-pushed (s .args .searches .now) (c .before .before .set-service .last .0) (s .args .n) (searchWidth * s .args .n + searchWidth - searchWidth * s .args .n) (s .pre .0) (s .pre .2) (omega (arith, c .before .searches .given)) (omega arith) (c .before .before .set-service .ensures)
 
 pub push-spec : {M : Type 1} → statement M
 push-spec =
@@ -39,9 +39,9 @@ push-spec =
     (tie.spec
     mul-a
     add-e
-    sub-set-kind
-    part-set-kind-start
-    part-set-kind-end
-    set-kind-requires
+    sub-set-service
+    part-set-service-start
+    part-set-service-end
+    set-service-requires
     same-length
     returns)

@@ -13,7 +13,7 @@ mask-of-requires c κs = search needs
 returns : tie.Need-returns
 returns c =
     let s = c .before .before .before .before .args in
-    record { mask = c .mask-of .ensures; told = ap ones (c .mask-of .ensures) ∙ told-ones (s .kind .now) (searchesIn (s .head .now) (s .searches .now)) }
+    record { mask = c .mask-of .ensures; told = ap ones (c .mask-of .ensures) ∙ told-ones (s .service .now) (searchesIn (s .head .now) (s .searches .now)) }
 
 pub told-of-spec : {M : Type 1} → statement M
 told-of-spec = tie.close (tie.spec mask-of-requires returns)

@@ -53,7 +53,7 @@ returns c =
     let alive = c .before .before .before .before .before .before .before .before .before .before .before .before .put .ensures in
     let name = c .before .before .before .before .before .before .before .put-header3 .ensures .0 in
     let end = c .before .before .put2 .ensures in
-    text (first ⨟ location ⨟ type ⨟ alive ⨟ name ⨟ end) (notify-row (a .kind .now) (a .name .now) (a .location .now))
+    text (first ⨟ location ⨟ type ⨟ alive ⨟ name ⨟ end) (notify-row (a .service .now) (a .name .now) (a .location .now))
 
 pub put-alive-spec : {M : Type 1} → statement M
 put-alive-spec =

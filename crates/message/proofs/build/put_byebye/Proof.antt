@@ -46,7 +46,7 @@ returns c =
     let byebye = c .before .before .before .before .before .before .before .before .before .before .before .before .put .ensures in
     let name = c .before .before .before .before .before .before .before .put-header2 .ensures .0 in
     let end = c .before .before .put2 .ensures in
-    text (first ⨟ type ⨟ byebye ⨟ name ⨟ end) (byebye-row (a .kind .now) (a .name .now))
+    text (first ⨟ type ⨟ byebye ⨟ name ⨟ end) (byebye-row (a .service .now) (a .name .now))
 
 pub put-byebye-spec : {M : Type 1} → statement M
 put-byebye-spec =

@@ -56,7 +56,7 @@ returns c =
     let name = c .before .before .before .before .before .before .before .before .before .before .before .before .put-header2 .ensures .0 in
     let location = c .before .before .before .before .before .before .before .put-header3 .ensures .0 in
     let end = c .before .before .put3 .ensures in
-    text (first ⨟ age ⨟ target ⨟ name ⨟ location ⨟ end) (response-row (a .kind .now) (a .name .now) (a .location .now))
+    text (first ⨟ age ⨟ target ⨟ name ⨟ location ⨟ end) (response-row (a .service .now) (a .name .now) (a .location .now))
 
 pub put-response-spec : {M : Type 1} → statement M
 put-response-spec =

@@ -49,7 +49,7 @@ returns c =
     let fixed = c .before .before .before .before .before .before .before .before .before .before .before .before .put3 .ensures in
     let target = c .before .before .before .before .before .before .before .put-header .ensures .0 in
     let blank = c .before .before .put4 .ensures in
-    text (first ⨟ host ⨟ fixed ⨟ target ⨟ blank) (search-row (a .kind .now))
+    text (first ⨟ host ⨟ fixed ⨟ target ⨟ blank) (search-row (a .service .now))
 
 pub put-search-spec : {M : Type 1} → statement M
 put-search-spec =

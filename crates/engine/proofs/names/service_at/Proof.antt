@@ -2,8 +2,8 @@
 use mathlib.Core.Path.{_∙_}
 use Rattle.engine.proofs.NameRows as names
 use borrow.Author.Needs.{needs}
-use Rattle.engine.proofs.names.kind_at.Statement.{statement}
-use Rattle.engine.proofs.names.kind_at.Tie as tie
+use Rattle.engine.proofs.names.service_at.Statement.{statement}
+use Rattle.engine.proofs.names.service_at.Tie as tie
 
 mul-len : tie.Need-mul-len
 mul-len c = search needs
@@ -27,10 +27,10 @@ text-in-requires : tie.Need-text-in-requires
 text-in-requires c κs = search needs
 
 returns : tie.Need-returns
-returns c = let s = c .before .before .before .before in c .text-in .ensures ∙ names.kind-at (s .args .i) (s .args .numbers .now) (s .args .texts .now) (s .pre .0) (s .pre .1 .1)
+returns c = let s = c .before .before .before .before in c .text-in .ensures ∙ names.service-at (s .args .i) (s .args .numbers .now) (s .args .texts .now) (s .pre .0) (s .pre .1 .1)
 
-pub kind-at-spec : {M : Type 1} → statement M
-kind-at-spec =
+pub service-at-spec : {M : Type 1} → statement M
+service-at-spec =
     tie.close
     (tie.spec
     mul-len

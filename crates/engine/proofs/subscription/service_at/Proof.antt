@@ -4,8 +4,8 @@ use native.Mathlib.Omega.{arith}
 use borrow.Author.Needs.{needs}
 use Rattle.engine.specs.Arrays.{searchWidth}
 use Rattle.engine.proofs.SearchRows.{type-is}
-use Rattle.engine.proofs.subscription.kind_at.Statement.{statement}
-use Rattle.engine.proofs.subscription.kind_at.Tie as tie
+use Rattle.engine.proofs.subscription.service_at.Statement.{statement}
+use Rattle.engine.proofs.subscription.service_at.Tie as tie
 
 mul-at : tie.Need-mul-at
 mul-at c = search needs
@@ -39,8 +39,8 @@ returns c =
     let s = c .before .before .before .before .args in
     type-is (s .searches .now) (s .i) (c .before .least .result) (c .before .least .ensures)
 
-pub kind-at-spec : {M : Type 1} → statement M
-kind-at-spec =
+pub service-at-spec : {M : Type 1} → statement M
+service-at-spec =
     tie.close
     (tie.spec
     mul-at

@@ -2,8 +2,8 @@
 use Rattle.engine.proofs.LinkRows as links
 use native.Mathlib.Omega.{arith}
 use borrow.Author.Needs.{needs}
-use Rattle.engine.proofs.links.held_at.Statement.{statement}
-use Rattle.engine.proofs.links.held_at.Tie as tie
+use Rattle.engine.proofs.links.lookup.Statement.{statement}
+use Rattle.engine.proofs.links.lookup.Tie as tie
 
 spot-of-requires : tie.Need-spot-of-requires
 spot-of-requires c κs = search needs
@@ -23,5 +23,5 @@ returns-2 c =
     let s = c .before .before .before .before .args in
     links.nowhere (s .head .now) (s .links .now) (c .before .spot-of .ensures) _ (c .if1 .left)
 
-pub held-at-spec : {M : Type 1} → statement M
-held-at-spec = tie.close (tie.spec spot-of-requires link-at-requires returns returns-2)
+pub lookup-spec : {M : Type 1} → statement M
+lookup-spec = tie.close (tie.spec spot-of-requires link-at-requires returns returns-2)

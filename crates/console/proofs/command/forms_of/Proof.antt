@@ -1,9 +1,9 @@
--- `kinds_of` meets its contract: row by row.
+-- `forms_of` meets its contract: row by row.
 use mathlib.Core.Path.{sym, _∙_, ap}
 use borrow.Author.Needs.{needs}
-use Rattle.console.specs.Command.{kindsOf}
-use Rattle.console.proofs.command.kinds_of.Statement.{statement}
-use Rattle.console.proofs.command.kinds_of.Tie as tie
+use Rattle.console.specs.Command.{formsOf}
+use Rattle.console.proofs.command.forms_of.Statement.{statement}
+use Rattle.console.proofs.command.forms_of.Tie as tie
 
 enum-told : tie.Need-enum-told
 enum-told c = search needs
@@ -108,58 +108,58 @@ five-requires-17 : tie.Need-five-requires-17
 five-requires-17 c κs = search needs
 
 returns : tie.Need-returns
-returns c = c .five .ensures ∙ sym (ap kindsOf (c .before .enum-told .given .1))
+returns c = c .five .ensures ∙ sym (ap formsOf (c .before .enum-told .given .1))
 
 returns-2 : tie.Need-returns-2
-returns-2 c = c .five2 .ensures ∙ sym (ap kindsOf (c .before .enum-told2 .given .1))
+returns-2 c = c .five2 .ensures ∙ sym (ap formsOf (c .before .enum-told2 .given .1))
 
 returns-3 : tie.Need-returns-3
-returns-3 c = c .five3 .ensures ∙ sym (ap kindsOf (c .before .enum-told3 .given .1))
+returns-3 c = c .five3 .ensures ∙ sym (ap formsOf (c .before .enum-told3 .given .1))
 
 returns-4 : tie.Need-returns-4
-returns-4 c = c .five4 .ensures ∙ sym (ap kindsOf (c .before .enum-told4 .given .1))
+returns-4 c = c .five4 .ensures ∙ sym (ap formsOf (c .before .enum-told4 .given .1))
 
 returns-5 : tie.Need-returns-5
-returns-5 c = c .five5 .ensures ∙ sym (ap kindsOf (c .before .enum-told5 .given .1))
+returns-5 c = c .five5 .ensures ∙ sym (ap formsOf (c .before .enum-told5 .given .1))
 
 returns-6 : tie.Need-returns-6
-returns-6 c = c .five6 .ensures ∙ sym (ap kindsOf (c .before .enum-told6 .given .1))
+returns-6 c = c .five6 .ensures ∙ sym (ap formsOf (c .before .enum-told6 .given .1))
 
 returns-7 : tie.Need-returns-7
-returns-7 c = c .five7 .ensures ∙ sym (ap kindsOf (c .before .enum-told7 .given .1))
+returns-7 c = c .five7 .ensures ∙ sym (ap formsOf (c .before .enum-told7 .given .1))
 
 returns-8 : tie.Need-returns-8
-returns-8 c = c .five8 .ensures ∙ sym (ap kindsOf (c .before .enum-told8 .given .1))
+returns-8 c = c .five8 .ensures ∙ sym (ap formsOf (c .before .enum-told8 .given .1))
 
 returns-9 : tie.Need-returns-9
-returns-9 c = c .five9 .ensures ∙ sym (ap kindsOf (c .before .enum-told9 .given .1))
+returns-9 c = c .five9 .ensures ∙ sym (ap formsOf (c .before .enum-told9 .given .1))
 
 returns-10 : tie.Need-returns-10
-returns-10 c = c .five10 .ensures ∙ sym (ap kindsOf (c .before .enum-told10 .given .1))
+returns-10 c = c .five10 .ensures ∙ sym (ap formsOf (c .before .enum-told10 .given .1))
 
 returns-11 : tie.Need-returns-11
-returns-11 c = c .five11 .ensures ∙ sym (ap kindsOf (c .before .enum-told11 .given .1))
+returns-11 c = c .five11 .ensures ∙ sym (ap formsOf (c .before .enum-told11 .given .1))
 
 returns-12 : tie.Need-returns-12
-returns-12 c = c .five12 .ensures ∙ sym (ap kindsOf (c .before .enum-told12 .given .1))
+returns-12 c = c .five12 .ensures ∙ sym (ap formsOf (c .before .enum-told12 .given .1))
 
 returns-13 : tie.Need-returns-13
-returns-13 c = c .five13 .ensures ∙ sym (ap kindsOf (c .before .enum-told13 .given .1))
+returns-13 c = c .five13 .ensures ∙ sym (ap formsOf (c .before .enum-told13 .given .1))
 
 returns-14 : tie.Need-returns-14
-returns-14 c = c .five14 .ensures ∙ sym (ap kindsOf (c .before .enum-told14 .given .1))
+returns-14 c = c .five14 .ensures ∙ sym (ap formsOf (c .before .enum-told14 .given .1))
 
 returns-15 : tie.Need-returns-15
-returns-15 c = c .five15 .ensures ∙ sym (ap kindsOf (c .before .enum-told15 .given .1))
+returns-15 c = c .five15 .ensures ∙ sym (ap formsOf (c .before .enum-told15 .given .1))
 
 returns-16 : tie.Need-returns-16
-returns-16 c = c .five16 .ensures ∙ sym (ap kindsOf (c .before .enum-told16 .given .1))
+returns-16 c = c .five16 .ensures ∙ sym (ap formsOf (c .before .enum-told16 .given .1))
 
 returns-17 : tie.Need-returns-17
-returns-17 c = c .five17 .ensures ∙ sym (ap kindsOf (c .before .enum-told17 .given .1))
+returns-17 c = c .five17 .ensures ∙ sym (ap formsOf (c .before .enum-told17 .given .1))
 
-pub kinds-of-spec : {M : Type 1} → statement M
-kinds-of-spec =
+pub forms-of-spec : {M : Type 1} → statement M
+forms-of-spec =
     tie.close
     (tie.spec
     enum-told

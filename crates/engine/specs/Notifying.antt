@@ -5,6 +5,6 @@ use Rattle.engine.specs.Held.{Text}
 use Rattle.engine.specs.Engine.{maskOf, toldOf}
 use Rattle.engine.specs.declared.subscription.Subscribers.{Subscribers}
 
-pub record Tells (subscriptions : List Text) (kind : Text) (r : Subscribers) : Type 0 where
-  pub mask : r .mask ≡ maskOf subscriptions kind
-  pub told : r .told ≡ toldOf subscriptions kind
+pub record Notifies (subscriptions : List Text) (service : Text) (r : Subscribers) : Type 0 where
+  pub mask : r .mask ≡ maskOf subscriptions service
+  pub told : r .told ≡ toldOf subscriptions service

@@ -2,8 +2,8 @@
 use Rattle.engine.proofs.LinkRows as links
 use native.Mathlib.Omega.{arith}
 use borrow.Author.Needs.{needs}
-use Rattle.engine.proofs.links.left.Statement.{statement}
-use Rattle.engine.proofs.links.left.Tie as tie
+use Rattle.engine.proofs.links.removed.Statement.{statement}
+use Rattle.engine.proofs.links.removed.Tie as tie
 
 count-of-requires : tie.Need-count-of-requires
 count-of-requires c κs = search needs
@@ -37,8 +37,8 @@ returns-2 c =
     let s = c .before .before .before .before .before .before .args in
     links.left-unknown (s .head .now) (s .links .now) (c .before .before .before .count-of .ensures) (c .before .spot-of .ensures) (c .if1 .left)
 
-pub left-spec : {M : Type 1} → statement M
-left-spec =
+pub removed-spec : {M : Type 1} → statement M
+removed-spec =
     tie.close
     (tie.spec
     count-of-requires

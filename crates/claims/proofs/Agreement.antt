@@ -246,7 +246,7 @@ unfolding flat
 announced-same up nil = refl
 announced-same up (row h t) = rw (h .name, h .service, h .location, announced-same up t)
 
--- ---- an act: the engine's result and the ledger's acted
+-- ---- an act: the engine's result and the ledger's
 record Agrees (s : Result) (t : Acted) : Type 0 where
   table : Table (s .advertisements) (t .names)
   counts : SameCounts (s .counts) (t .adds)

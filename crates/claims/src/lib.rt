@@ -40,7 +40,7 @@ pub fn star_cases()
     ensures { λ _. ⌜ allHold starCases ≡ true ⌝ }
 {}
 
-// The round trip: what each of the four `build_*` writes, of any good texts, `parse` reads back to its service and its fields (message/specs/RoundTrip.antt).
+// The round trip: what each of the four `build_*` writes, of any good texts, `parse` reads back to its kind and its fields (message/specs/RoundTrip.antt).
 pub fn round_trip()
     ensures { λ _. ⌜ RoundTrip ⌝ }
 {}

@@ -26,7 +26,7 @@ module _ (x : ℕ) where
   unfolding placeOf
   place-over {t} {i} {rest} e h = let z : placeOf x rest ≡ 0 = rw e in omega arith
 
--- ---- what the place notifies
+-- ---- what the place tells
 module _ (x : ℕ) where
   pub contains-place : (l : List ℕ) → contains x l ≡ ltb (placeOf x l) (length l)
   unfolding placeOf contains

@@ -87,7 +87,7 @@ pub record LinksAfter (n : ℕ) (links : List ℕ) (l : List Link) : Type 0 wher
   pub few : n ≤ linksMax
   pub rows : linkRows n links ≡ l
 
--- ---- what a search opens: a reply to its sender that answers in the target; `all` notifies whether it asks for all types, and is answered in each name's own
+-- ---- what a search opens: a reply to its sender that answers in the target; `all` tells whether it asks for all types, and is answered in each name's own
 pub record Opening (target : Text) (due : ℕ) (sender : Endpoint) (receiver : ℕ) (all : Bool) (a : ActiveAdvertisement) : Type 0 where
   pub every : all ≡ equal target ssdpAll
   pub reply : a .«response_needed» ≡ Unicast due sender receiver

@@ -1,4 +1,4 @@
--- What a look at the links notifies of the one of an index. One that is not held is as a link that is down and has no addresses.
+-- What a look at the links tells of the one of an index. One that is not held is as a link that is down and has no addresses.
 use Prim.Native.Nat.{ℕ}
 use mathlib.Core.Path.{_≡_}
 use mathlib.Core.List.{List}

@@ -11,7 +11,7 @@ typeOf (NotifyByeBye nt usn) = nt
 typeOf (Search st mx) = st
 typeOf (Response st usn l) = st
 
--- every service but a search
+-- every message but a search
 abbrev pub isNotice : Message → Bool
 isNotice (NotifyAlive nt usn l) = true
 isNotice (NotifyByeBye nt usn) = true

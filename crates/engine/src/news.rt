@@ -40,7 +40,7 @@ pub(crate) fn turns_up(held: LinkLookup, flags: u32) -> bool
     Flags(flags).is_multicast() & held.known & !link.up & Flags(flags).is_up()
 }
 
-// Whether an address that the kernel notifies of is to be stored: an IPv4 address that a held link does not have.
+// Whether an address that the kernel tells of is to be stored: an IPv4 address that a held link does not have.
 pub(crate) fn is_stored(held: LinkLookup, address: &[u8]) -> bool
     ensures { λ r. ⌜ ((index : ℕ) (links : List Link) → LinkFound index links held → r ≡ stores index (now (address .entry)) links) ⌝ }
 {

@@ -1,4 +1,4 @@
--- The round trip (specs/RoundTrip.antt): a message's headers are given back (Written), so its service and its fields are.
+-- The round trip (specs/RoundTrip.antt): a message's headers are given back (Written), so its kind and its fields are.
 use mathlib.Core.Path.{_≡_, refl, sym, _∙_, ap}
 use mathlib.Core.Bool.{true}
 use mathlib.Core.List.{List, _∷_}

@@ -1,4 +1,4 @@
--- A written message gives its headers back, whatever its service: one induction over the headers.
+-- A written message gives its headers back, whatever its kind: one induction over the headers.
 use mathlib.Core.Path.{_≡_, refl, sym, _∙_, ap}
 use mathlib.Core.Bool.{Bool, true, false, cond, _&&_}
 use mathlib.Core.List.{List, [], _∷_, _++_, append-assoc}

@@ -1,4 +1,4 @@
--- The test notifies phase 3 from the others; the byte is the callee's.
+-- The test tells phase 3 from the others; the byte is the callee's.
 use native.Mathlib.Omega.{arith}
 use Rattle.engine.proofs.Timer.{period-long, period-short}
 use borrow.Author.Needs.{needs}

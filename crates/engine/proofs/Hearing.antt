@@ -17,12 +17,12 @@ use Rattle.message.proofs.Message.{the-type as message-type}
 use Rattle.message.proofs.Parsed.{the-type as parsed-type}
 use Rattle.text.specs.declared.white.Place.{Place}
 use Rattle.engine.specs.Sizes.{timeMax}
-use Rattle.engine.specs.Reading.{typeOf, isNotice}
+use Rattle.engine.specs.Reading.{Subject, Asking, Notice, subjectOf, placeOf, noticed, typeOf, isNotice}
 use Rattle.engine.specs.declared.advertisement.Endpoint.{Endpoint}
 use Rattle.engine.specs.Held.{Text, Context}
-use Rattle.engine.specs.Calls.{Datagram, asks}
-use Rattle.engine.specs.Refusals.{Names, checks, refusal, searchChecks}
-use Rattle.engine.specs.Engine.{notifiesOf, notifiesAbout}
+use Rattle.engine.specs.Calls.{Datagram, asksAbout, asks}
+use Rattle.engine.specs.Refusals.{Names, checks, refusal, subjectChecks, searchChecks}
+use Rattle.engine.specs.Engine.{notifiesBy, notifiesOf, notifiesAbout}
 
 -- the numbers of the answers of `parse` that hold no message, and of the messages that are no search
 abbrev pub refusals : List ℕ
@@ -55,10 +55,13 @@ pub record Noticed (s : List ℕ) (service : Place) (a : ParseAnswer) : Type 0 w
   pub notifying : (subscriptions : List Text) → notifiesOf subscriptions s (a .message) ≡ notifiesAbout subscriptions (fieldAt s service)
 
 pub notice-read : (s : List ℕ) (m : Message) → isNotice m ≡ true → Noticed s (typeOf m) (reads m)
-notice-read s (NotifyAlive nt usn l) e = record { accepted = refl; checked = refl; asking = λ t o r. refl; notifying = λ ss. refl }
-notice-read s (NotifyByeBye nt usn) e = record { accepted = refl; checked = refl; asking = λ t o r. refl; notifying = λ ss. refl }
-notice-read s (Search st mx) e = absurd (false≢true e)
-notice-read s (Response st usn l) e = record { accepted = refl; checked = refl; asking = λ t o r. refl; notifying = λ ss. refl }
+notice-read s m e = let k = by-subject (subjectOf m) e in record { accepted = refl; checked = k .0; asking = k .1; notifying = k .2 }
+  where
+    by-subject : (t : Subject) → noticed t ≡ true
+        → (subjectChecks s t ≡ []) × ((time : ℕ) (sender : Endpoint) (receiver : ℕ) → asksAbout time sender receiver s t ≡ [])
+        × ((subscriptions : List Text) → notifiesBy subscriptions s t ≡ notifiesAbout subscriptions (fieldAt s (placeOf t)))
+    by-subject (Asking st mx) e = absurd (false≢true e)
+    by-subject (Notice p) e = (refl, λ t o r. refl, λ ss. refl)
 
 -- the refusal of a datagram: by its time, by what cannot be read, and none for a notice
 module _ (x : Context) (n : Names) (time : ℕ) (sender : Endpoint) (receiver : ℕ) (s : List ℕ) where

@@ -5,7 +5,7 @@ use mathlib.Core.List.{List, [], _∷_}
 use mathlib.Core.Option.{Option, none, some}
 use Rattle.message.specs.Parse.{parsed, fieldAt}
 use Rattle.message.specs.declared.Message.{Message}
-use Rattle.message.specs.declared.Message.the-variants.{NotifyAlive, NotifyByeBye, Search, Response}
+use Rattle.engine.specs.Reading.{Subject, Asking, Notice, subjectOf}
 use Rattle.engine.specs.Held.{Text}
 use Rattle.engine.specs.declared.advertisement.Endpoint.{Endpoint}
 
@@ -45,13 +45,14 @@ pub data Act : Type 0 where
   Ticks : ℕ → Act
 
 -- the search that a datagram is, if `parse` reads it as one
+abbrev pub asksAbout : ℕ → Endpoint → ℕ → List ℕ → Subject → List Act
+asksAbout time sender receiver s (Asking st mx) =
+    Asks (record { target = fieldAt s st; mx = mx; sender = sender; receiver = receiver; time = time }) ∷ []
+asksAbout time sender receiver s (Notice t) = []
+
 abbrev pub asks : ℕ → Endpoint → ℕ → List ℕ → Option Message → List Act
 asks time sender receiver s none = []
-asks time sender receiver s (some (NotifyAlive nt usn l)) = []
-asks time sender receiver s (some (NotifyByeBye nt usn)) = []
-asks time sender receiver s (some (Search st mx)) =
-    Asks (record { target = fieldAt s st; mx = mx; sender = sender; receiver = receiver; time = time }) ∷ []
-asks time sender receiver s (some (Response st usn l)) = []
+asks time sender receiver s (some m) = asksAbout time sender receiver s (subjectOf m)
 
 unfoldable pub acts : Call → List Act
 acts (NewLink index flags outcome room) = []

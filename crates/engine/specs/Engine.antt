@@ -6,7 +6,7 @@ use mathlib.Core.Option.{Option, none, some}
 use lib.ListN.{length}
 use Rattle.message.specs.Parse.{parsed, fieldAt}
 use Rattle.message.specs.declared.Message.{Message}
-use Rattle.message.specs.declared.Message.the-variants.{NotifyAlive, NotifyByeBye, Search, Response}
+use Rattle.engine.specs.Reading.{Subject, Asking, Notice, subjectOf}
 use Rattle.engine.specs.Sizes.{outboxSize}
 use Rattle.engine.specs.Table.{known}
 use Rattle.engine.specs.Target.{targetMatch}
@@ -59,12 +59,13 @@ abbrev pub notifiesAbout : List Text → Text → Notified
 notifiesAbout subscriptions service = record { mask = maskOf subscriptions service; number = toldOf subscriptions service; leave = 0 }
 
 -- subscribers are told of the NT or ST of a notify or response; a search notifies nobody
+abbrev pub notifiesBy : List Text → List ℕ → Subject → Notified
+notifiesBy subscriptions s (Asking st mx) = notifiesNobody
+notifiesBy subscriptions s (Notice t) = notifiesAbout subscriptions (fieldAt s t)
+
 abbrev pub notifiesOf : List Text → List ℕ → Option Message → Notified
 notifiesOf subscriptions s none = notifiesNobody
-notifiesOf subscriptions s (some (NotifyAlive nt usn l)) = notifiesAbout subscriptions (fieldAt s nt)
-notifiesOf subscriptions s (some (NotifyByeBye nt usn)) = notifiesAbout subscriptions (fieldAt s nt)
-notifiesOf subscriptions s (some (Search st mx)) = notifiesNobody
-notifiesOf subscriptions s (some (Response st usn l)) = notifiesAbout subscriptions (fieldAt s st)
+notifiesOf subscriptions s (some m) = notifiesBy subscriptions s (subjectOf m)
 
 unfoldable pub notifies : Context → Call → Notified
 notifies x (NewLink index flags outcome room) = notifiesNobody

@@ -10,7 +10,7 @@ use Rattle.message.specs.Parse.{parsed, fieldAt}
 use Rattle.message.specs.Build.{typeMax, nameMax}
 use Rattle.message.specs.Refusals.{textOverSize, textNotGood}
 use Rattle.message.specs.declared.Message.{Message}
-use Rattle.message.specs.declared.Message.the-variants.{NotifyAlive, NotifyByeBye, Search, Response}
+use Rattle.engine.specs.Reading.{Subject, Asking, Notice, subjectOf}
 use Rattle.engine.specs.Sizes.{timeMax, advertisementsMax, subscriptionsMax, linksMax, addressesMax, locationMax}
 use Rattle.engine.specs.Table.{known}
 use Rattle.engine.specs.Flags.{isMulticast}
@@ -88,12 +88,13 @@ abbrev pub newMulticast : ℕ → ℕ → List Link → Bool
 newMulticast index flags ls = isMulticast flags && not (known byIndex index ls)
 
 -- 9 and 10 are for searches
+abbrev pub subjectChecks : List ℕ → Subject → List Check
+subjectChecks s (Asking st mx) = eqb mx 0 refuses waitZero ∷ over typeMax (fieldAt s st) refuses targetOverSize ∷ []
+subjectChecks s (Notice t) = []
+
 abbrev pub searchChecks : List ℕ → Option Message → List Check
 searchChecks s none = []
-searchChecks s (some (NotifyAlive nt usn l)) = []
-searchChecks s (some (NotifyByeBye nt usn)) = []
-searchChecks s (some (Search st mx)) = eqb mx 0 refuses waitZero ∷ over typeMax (fieldAt s st) refuses targetOverSize ∷ []
-searchChecks s (some (Response st usn l)) = []
+searchChecks s (some m) = subjectChecks s (subjectOf m)
 
 unfoldable pub checks : Context → Names → Call → List Check
 checks x n (NewLink index flags outcome room) =

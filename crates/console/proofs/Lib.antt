@@ -7,6 +7,7 @@ pub mod InEach
 pub mod Pairs
 pub mod Parts
 pub mod InLine
+pub mod Lengths
 pub mod Octets
 pub mod Printing
 pub mod Reading

@@ -5,6 +5,8 @@ use text::bytes;
 use text::number;
 use text::number::Number;
 ghost use mathlib.Core.Path.{_≡_};
+ghost use Prim.Native.Nat.{_≤_};
+ghost use lib.ListN.{length};
 ghost use Rattle.console.specs.Buffer.{Appends};
 ghost use Rattle.console.specs.Address.{orNone, octet, address, addressThen};
 
@@ -58,9 +60,9 @@ pub fn address_of(s: &[u8]) -> Number
     Number::Value(n * 256 + d)
 }
 
-// Appends the first four bytes of `s` as a dotted address, and the byte that ends it.
+// Appends the first four bytes of `s` as a dotted address, and the byte that ends it: 16 bytes at most.
 pub fn append_address(buf: &mut [u8], len: usize, s: &[u8], end: u8) -> usize
-    ensures { λ r. ⌜ Appends (addressThen end (now (s .entry))) (now (buf .entry)) len (now (buf .exit)) r ⌝ }
+    ensures { λ r. ⌜ Appends (addressThen end (now (s .entry))) (now (buf .entry)) len (now (buf .exit)) r × (length (addressThen end (now (s .entry))) ≤ 16) ⌝ }
 {
     let first = decimal::append_number(buf, len, part::byte_at(s, 0) as u64, b'.');
     let second = decimal::append_number(buf, first, part::byte_at(s, 1) as u64, b'.');

@@ -10,7 +10,7 @@ ghost use lib.ListN.{take};
 ghost use Rattle.console.specs.Input.{eventIn, Gathers, Pending, finished};
 
 // The longest line that is read.
-const LINE_MAX: usize = 4096;
+pub const LINE_MAX: usize = 4096;
 
 // What a chunk of the input brings: the line goes on, and so much of it is held; it has ended, with this length, and so many bytes
 // of the chunk are used up; or it has ended and is too long.

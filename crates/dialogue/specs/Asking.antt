@@ -21,10 +21,11 @@ addressMax = 32
 abbrev pub partOf : List ℕ → Place → List ℕ
 partOf s p = take (p .len) (drop (p .start) s)
 
--- no call; the engine's beginning, with seed and time; or a call on it
+-- no call; the engine's beginning, with seed and time; so many bytes to lend from now on; or a call on the engine
 pub data Asked : Type 0 where
   Nothing : Asked
   Begin : ℕ → ℕ → Asked
+  Lend : ℕ → Asked
   Of : Call → Asked
 
 -- what the command of a line asks, `room` bytes being lent
@@ -43,7 +44,7 @@ asked s room (line.Datagram time sender port receiver text) =
     Of (Datagram time (record { address = sender; port = port }) receiver (take datagramMax (datagram (partOf s text))))
 asked s room (line.Timeout time) = Of (Timeout time room)
 asked s room (line.Reset time) = Of (ResetTimer time)
-asked s room (line.Lend n) = Nothing
+asked s room (line.Lend n) = Lend n
 asked s room (line.HexDatagram time sender port receiver digits) =
     Of (Datagram time (record { address = sender; port = port }) receiver (take datagramMax (unhexed (partOf s digits))))
 asked s room (line.NewHexAddress index digits) = Of (NewAddress index (take addressMax (unhexed (partOf s digits))) room)

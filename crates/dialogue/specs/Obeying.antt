@@ -7,7 +7,7 @@ use lib.Dec.{eqb}
 use Rattle.engine.specs.Calls.{Call}
 use Rattle.engine.specs.Arrays.{Engine}
 use Rattle.engine.specs.Promises.{answered, Answers, Begins}
-use Rattle.dialogue.specs.Asking.{Asked, Nothing, Begin, Of}
+use Rattle.dialogue.specs.Asking.{Asked, Nothing, Begin, Lend, Of}
 use Rattle.dialogue.specs.declared.session.Reply.{Reply}
 
 -- `?`: nothing has changed
@@ -29,13 +29,15 @@ pub record Called (e : Engine) (c : Call) (outbox outbox′ : List ℕ) (e′ : 
   pub begun : r .begun ≡ true
   pub heard : r .heard ≡ true
 
--- whether an engine has begun, and what the line asks
+-- whether an engine has begun, and what the line asks; what is lent is no matter of the engine
 abbrev pub Outcome : Bool → Asked → Engine → List ℕ → List ℕ → Engine → Reply → Type 0
 Outcome false Nothing e outbox outbox′ e′ r = Unheard false e outbox outbox′ e′ r
 Outcome false (Begin seed time) e outbox outbox′ e′ r = Begun seed time outbox outbox′ e′ r
+Outcome false (Lend n) e outbox outbox′ e′ r = Unheard false e outbox outbox′ e′ r
 Outcome false (Of c) e outbox outbox′ e′ r = Unheard false e outbox outbox′ e′ r
 Outcome true Nothing e outbox outbox′ e′ r = Unheard true e outbox outbox′ e′ r
 Outcome true (Begin seed time) e outbox outbox′ e′ r = Unheard true e outbox outbox′ e′ r
+Outcome true (Lend n) e outbox outbox′ e′ r = Unheard true e outbox outbox′ e′ r
 Outcome true (Of c) e outbox outbox′ e′ r = Called e c outbox outbox′ e′ r
 
 pub record Obeys (begun : Bool) (x : Asked) (e : Engine) (outbox outbox′ : List ℕ) (e′ : Engine) (r : Reply) : Type 0 where

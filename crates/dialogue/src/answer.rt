@@ -2,12 +2,14 @@
 use console::buffer;
 use console::decimal;
 use engine::answer::Answer;
+ghost use Prim.Native.Nat.{_≤_};
+ghost use lib.ListN.{length};
 ghost use Rattle.console.specs.Buffer.{Appends};
 ghost use Rattle.dialogue.specs.Printing.{answerLine, newsLine};
 
-// The line of `session`: refusal, records, the five counts, waiting and poll.
+// The line of `session`: refusal, records, the five counts, waiting and poll; nine numbers of at most 20 digits.
 pub fn append_answer(buf: &mut [u8], len: usize, a: Answer) -> usize
-    ensures { λ r. ⌜ Appends (answerLine a) (now (buf .entry)) len (now (buf .exit)) r ⌝ }
+    ensures { λ r. ⌜ Appends (answerLine a) (now (buf .entry)) len (now (buf .exit)) r × (length (answerLine a) ≤ 189) ⌝ }
 {
     let numbers = [
         a.refusal as u64,
@@ -23,9 +25,9 @@ pub fn append_answer(buf: &mut [u8], len: usize, a: Answer) -> usize
     decimal::append_number(buf, next, a.poll, b'\n')
 }
 
-// The further line of `trace`: mask, number told and leave outcome.
+// The further line of `trace`: mask, number told and leave outcome, of at most 10 digits each.
 pub fn append_news(buf: &mut [u8], len: usize, a: Answer) -> usize
-    ensures { λ r. ⌜ Appends (newsLine a) (now (buf .entry)) len (now (buf .exit)) r ⌝ }
+    ensures { λ r. ⌜ Appends (newsLine a) (now (buf .entry)) len (now (buf .exit)) r × (length (newsLine a) ≤ 35) ⌝ }
 {
     let next = buffer::append(buf, len, b"A ");
     let next = decimal::append_number(buf, next, a.mask as u64, b' ');

@@ -7,7 +7,7 @@ use console::part;
 use engine::sizes::RECORD_HEAD;
 use engine::sizes::RECORD_SIZE;
 ghost use mathlib.Core.Path.{_≡_};
-ghost use Prim.Native.Nat.{_<_};
+ghost use Prim.Native.Nat.{_+_, _*_, _<_, _≤_};
 ghost use lib.Dec.{eqb};
 ghost use lib.ListN.{length, replicate};
 ghost use Rattle.console.specs.Buffer.{Appends};
@@ -39,7 +39,7 @@ pub fn record_at(outbox: &[u8], k: usize) -> &[u8]
 
 // Where a record goes, and from where.
 fn append_head(buf: &mut [u8], len: usize, s: &[u8]) -> usize
-    ensures { λ r. ⌜ Appends (headLine (now (s .entry))) (now (buf .entry)) len (now (buf .exit)) r ⌝ }
+    ensures { λ r. ⌜ Appends (headLine (now (s .entry))) (now (buf .entry)) len (now (buf .exit)) r × (length (headLine (now (s .entry))) ≤ 40) ⌝ }
 {
     let next = buffer::append(buf, len, b"R ");
     let next = address::append_address(buf, next, s, b' ');
@@ -47,9 +47,9 @@ fn append_head(buf: &mut [u8], len: usize, s: &[u8]) -> usize
     address::append_address(buf, next, part::tail(s, 6), b' ')
 }
 
-// The line of a record.
+// The line of a record: two digits for each byte of the message, and 47 bytes at most for all else.
 pub fn append_record(buf: &mut [u8], len: usize, s: &[u8]) -> usize
-    ensures { λ r. ⌜ Appends (recordLine (now (s .entry))) (now (buf .entry)) len (now (buf .exit)) r ⌝ }
+    ensures { λ r. ⌜ Appends (recordLine (now (s .entry))) (now (buf .entry)) len (now (buf .exit)) r × (length (recordLine (now (s .entry))) ≤ 47 + 2 * length (now (s .entry))) ⌝ }
 {
     let size = number_at(s, 10);
     let next = append_head(buf, len, s);

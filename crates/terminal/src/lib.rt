@@ -1,261 +1,50 @@
-// The programs `session` and `trace` at their standard streams: chunks of the input in, lines out. What a line means and prints is in
-// crates `console` and `dialogue`. Nothing says that the input ends, so each loop has a count that falls.
-use console::command;
-use console::command::Command;
-use console::input;
-use console::input::Event;
+// The programs `session` and `trace` at their standard streams: chunks of the input are read and handed on, and what each step gives is written. What is
+// printed is decided in crate `program`. Nothing says that the input ends, so the loop that reads has a count that falls.
 use console::part;
-use dialogue::answer;
-use dialogue::record;
-use dialogue::session;
-use engine::answer::Answer;
 use engine::sizes::HEAD_PLACES;
 use engine::sizes::Head;
 use engine::sizes::LINK_NUMBERS;
 use engine::sizes::Links;
 use engine::sizes::NUMBERS_SIZE;
 use engine::sizes::Numbers;
-use engine::sizes::OUTBOX_SIZE;
 use engine::sizes::SEARCH_BYTES;
 use engine::sizes::Searches;
 use engine::sizes::TEXTS_SIZE;
 use engine::sizes::Texts;
+use program::state;
+use program::state::State;
+use program::step;
 ghost use mathlib.Core.Path.{_≡_};
+ghost use mathlib.Core.Bool.{false};
+ghost use mathlib.Core.List.{List, []};
+ghost use Prim.Native.Nat.{ℕ, _≤_};
 ghost use lib.ListN.{length};
+ghost use Rattle.engine.specs.Arrays.{Engine, engine};
+ghost use Rattle.program.specs.Steps.{pieceMax, Ready, Hands, Reads};
 
-// What is lent to a call, until `trace` reads `outbox`.
-const LENT: usize = OUTBOX_SIZE;
-
-// What is held between two lines, besides the engine's arrays: whether an engine has begun, how many bytes are lent, and whether records are printed.
-struct Running {
-    begun: bool,
-    lent: usize,
-    traced: bool,
+// Writes the first `len` bytes of a buffer.
+fn write(out: &[u8], len: usize) {
+    io::write_all(1, part::front(out, len));
 }
 
-// What is held between two chunks: besides, how much of a line has come.
-struct Taken {
-    running: Running,
-    held: usize,
-}
-
-// Room for the longest line with both bytes of its end.
-fn no_line() -> [u8; 4098]
-    ensures { λ r. ⌜ length r ≡ 4098 ⌝ }
+// Writes what is still to be told of an answer.
+fn tell(s: State, outbox: &[u8], out: &mut [u8]) -> State
+    requires { ⌜ pieceMax ≤ length (now out) ⌝ }
+    ensures { λ r. ⌜ (r .held ≡ s .held) × (r .telling ≡ false) × ((e : Engine) (line rest : List ℕ) → Hands s e line (now (outbox .entry)) rest r e line (now (outbox .entry)) rest) ⌝ }
 {
-    [0; 4098]
-}
-
-// Prints the first `len` bytes of a buffer.
-fn print(buf: &[u8], len: usize) {
-    io::write_all(1, part::front(buf, len));
-}
-
-// The line of a record has at most 1,069 bytes: two digits for each of a message's 512 bytes, and 45 for all else.
-fn print_record(outbox: &[u8], k: usize) {
-    let mut text = io::buffer();
-    let len = record::append_record(&mut text, 0, record::record_at(outbox, k));
-    print(&text, len);
-}
-
-fn print_records(outbox: &[u8], n: usize) {
-    let mut k = 0;
-    while k < n {
-        print_record(outbox, k);
-        k += 1;
+    let mut state = s;
+    while state.telling {
+        let step = step::tell(state, outbox, out);
+        write(out, step.len);
+        let next = step.state;
+        state = next;
     }
+    state
 }
 
-// What `trace` prints besides: news, records, and a mark where a call wrote what it should not.
-fn print_trace(outbox: &[u8], a: Answer) {
-    let mut text = io::buffer();
-    let len = answer::append_news(&mut text, 0, a);
-    print(&text, len);
-    print_records(outbox, a.records);
-    if !record::is_clean(outbox, a.records) {
-        io::write_all(1, b"!\n");
-    }
-}
-
-fn print_answer(outbox: &[u8], traced: bool, a: Answer) {
-    let mut text = io::buffer();
-    let len = answer::append_answer(&mut text, 0, a);
-    print(&text, len);
-    if traced {
-        print_trace(outbox, a);
-    }
-}
-
-fn command_of(line: &[u8], traced: bool) -> Command {
-    if traced {
-        return command::trace_command(line);
-    }
-    command::session_command(line)
-}
-
-// Marks what is lent, so that `trace` sees what a call wrote.
-fn mark(outbox: &mut [u8], traced: bool) {
-    if traced {
-        record::fill(outbox);
-    }
-}
-
-// Prints what a line gives.
-fn print_reply(outbox: &[u8], traced: bool, heard: bool, a: Answer) {
-    if heard {
-        print_answer(outbox, traced, a);
-    } else {
-        io::write_all(1, b"?\n");
-    }
-}
-
-// A call, or nothing that is heard.
-fn obey(
-    r: Running,
-    head: &mut Head,
-    links: &mut Links,
-    searches: &mut Searches,
-    numbers: &mut Numbers,
-    texts: &mut Texts,
-    line: &[u8],
-    c: Command,
-    outbox: &mut [u8],
-) -> Running {
-    mark(outbox, r.traced);
-    let reply = session::obey(
-        r.begun,
-        head,
-        links,
-        searches,
-        numbers,
-        texts,
-        line,
-        c,
-        outbox,
-    );
-    let a = reply.answer;
-    print_reply(outbox, r.traced, reply.heard, a);
-    Running {
-        begun: reply.begun,
-        lent: r.lent,
-        traced: r.traced,
-    }
-}
-
-fn lend(r: Running, n: usize) -> Running {
-    if !r.begun {
-        io::write_all(1, b"?\n");
-        return r;
-    }
-    io::write_all(1, b"ok\n");
-    let mut next = r;
-    next.lent = n;
-    next
-}
-
-// The same with as much of the outbox as is lent.
-fn obey_lent(
-    r: Running,
-    head: &mut Head,
-    links: &mut Links,
-    searches: &mut Searches,
-    numbers: &mut Numbers,
-    texts: &mut Texts,
-    line: &[u8],
-    c: Command,
-    outbox: &mut [u8],
-) -> Running {
-    let room = r.lent;
-    if outbox.len() <= room {
-        return obey(r, head, links, searches, numbers, texts, line, c, outbox);
-    }
-    obey(
-        r,
-        head,
-        links,
-        searches,
-        numbers,
-        texts,
-        line,
-        c,
-        &mut outbox[0..room],
-    )
-}
-
-// One line.
-fn on_line(
-    r: Running,
-    head: &mut Head,
-    links: &mut Links,
-    searches: &mut Searches,
-    numbers: &mut Numbers,
-    texts: &mut Texts,
-    line: &[u8],
-    outbox: &mut [u8],
-) -> Running {
-    let c = command_of(line, r.traced);
-    let Command::Lend(n) = c else {
-        return obey_lent(r, head, links, searches, numbers, texts, line, c, outbox);
-    };
-    lend(r, n as usize)
-}
-
-// What a line's end brings, or that the line goes on: the running after it, how much of a line is held then, and how many bytes of the
-// chunk are used up, none where the line goes on.
-struct Turn {
-    running: Running,
-    held: usize,
-    used: usize,
-}
-
-fn on_event(
-    r: Running,
-    head: &mut Head,
-    links: &mut Links,
-    searches: &mut Searches,
-    numbers: &mut Numbers,
-    texts: &mut Texts,
-    line: &[u8],
-    event: Event,
-    outbox: &mut [u8],
-) -> Turn {
-    match event {
-        Event::More(n) => Turn {
-            running: r,
-            held: n,
-            used: 0,
-        },
-        Event::Line { len, used } => {
-            let next = on_line(
-                r,
-                head,
-                links,
-                searches,
-                numbers,
-                texts,
-                part::front(line, len),
-                outbox,
-            );
-            Turn {
-                running: next,
-                held: 0,
-                used: used,
-            }
-        }
-        Event::TooLong(used) => {
-            io::write_all(1, b"?\n");
-            Turn {
-                running: r,
-                held: 0,
-                used: used,
-            }
-        }
-    }
-}
-
-// What a chunk brings. Each turn uses up a byte at least: a line with its end, or the rest, which is no whole line.
+// Hands on a chunk, part by part.
 fn on_chunk(
-    t: Taken,
+    s: State,
     head: &mut Head,
     links: &mut Links,
     searches: &mut Searches,
@@ -264,45 +53,80 @@ fn on_chunk(
     line: &mut [u8],
     chunk: &[u8],
     outbox: &mut [u8],
-) -> Taken {
-    let mut running = t.running;
-    let mut held = t.held;
+    out: &mut [u8],
+) -> State
+    requires { ⌜ Ready s (now line) (now outbox) (now out) ⌝ }
+    ensures { λ r. ⌜ Ready r (now (line .exit)) (now (outbox .exit)) (now (out .exit)) × Hands s (engine (now (head .entry)) (now (links .entry)) (now (searches .entry)) (now (numbers .entry)) (now (texts .entry))) (now (line .entry)) (now (outbox .entry)) (now (chunk .entry)) r (engine (now (head .exit)) (now (links .exit)) (now (searches .exit)) (now (numbers .exit)) (now (texts .exit))) (now (line .exit)) (now (outbox .exit)) [] ⌝ }
+{
+    let mut state = s;
     let mut at: usize = 0;
-    let mut turns = chunk.len();
-    while 0 < turns {
-        let event = input::gather(line, held, part::tail(chunk, at));
-        let turn = on_event(
-            running,
+    while at < chunk.len() {
+        let step = step::take_in(
+            state,
             head,
             links,
             searches,
             numbers,
             texts,
             line,
-            event,
+            part::tail(chunk, at),
             outbox,
+            out,
         );
-        let next = turn.running;
-        running = next;
-        held = turn.held;
-        at = std::num::wrapping_add_usize(at, turn.used);
-        if turn.used == 0 {
-            return Taken {
-                running: running,
-                held: held,
-            };
-        }
-        turns -= 1;
+        write(out, step.len);
+        let taken = step.state;
+        let next = tell(taken, outbox, out);
+        state = next;
+        at += step.used;
     }
-    Taken {
-        running: running,
-        held: held,
-    }
+    state
 }
 
-// The input has ended: what is left of it is a line, if there is anything.
+// Reads standard input to its end and hands it on.
+fn read_all(
+    s: State,
+    head: &mut Head,
+    links: &mut Links,
+    searches: &mut Searches,
+    numbers: &mut Numbers,
+    texts: &mut Texts,
+    line: &mut [u8],
+    outbox: &mut [u8],
+    out: &mut [u8],
+) -> State
+    requires { ⌜ Ready s (now line) (now outbox) (now out) ⌝ }
+    ensures { λ r. ⌜ Ready r (now (line .exit)) (now (outbox .exit)) (now (out .exit)) × Reads s (engine (now (head .entry)) (now (links .entry)) (now (searches .entry)) (now (numbers .entry)) (now (texts .entry))) (now (line .entry)) (now (outbox .entry)) r (engine (now (head .exit)) (now (links .exit)) (now (searches .exit)) (now (numbers .exit)) (now (texts .exit))) (now (line .exit)) (now (outbox .exit)) ⌝ }
+{
+    let mut chunk = io::buffer();
+    let mut state = s;
+    let mut turns: u64 = 0xFFFF_FFFF_FFFF_FFFF;
+    while 0 < turns {
+        let got = libc::read(0, &mut chunk);
+        let n = io::count(got, &chunk);
+        if n == 0 {
+            return state;
+        }
+        let next = on_chunk(
+            state,
+            head,
+            links,
+            searches,
+            numbers,
+            texts,
+            line,
+            part::front(&chunk, n),
+            outbox,
+            out,
+        );
+        state = next;
+        turns -= 1;
+    }
+    state
+}
+
+// The input has ended.
 fn on_end(
-    t: Taken,
+    s: State,
     head: &mut Head,
     links: &mut Links,
     searches: &mut Searches,
@@ -310,37 +134,14 @@ fn on_end(
     texts: &mut Texts,
     line: &[u8],
     outbox: &mut [u8],
-) {
-    match input::finish(line, t.held) {
-        Event::More(_) => {}
-        Event::Line { len, used } => {
-            on_line(
-                t.running,
-                head,
-                links,
-                searches,
-                numbers,
-                texts,
-                part::front(line, len),
-                outbox,
-            );
-        }
-        Event::TooLong(_) => {
-            io::write_all(1, b"?\n");
-        }
-    }
-}
-
-// Before the first line.
-fn none(traced: bool) -> Taken {
-    Taken {
-        running: Running {
-            begun: false,
-            lent: LENT,
-            traced: traced,
-        },
-        held: 0,
-    }
+    out: &mut [u8],
+)
+    requires { ⌜ Ready s (now line) (now outbox) (now out) ⌝ }
+{
+    let step = step::finish(s, head, links, searches, numbers, texts, line, outbox, out);
+    write(out, step.len);
+    let last = step.state;
+    tell(last, outbox, out);
 }
 
 // The arrays of an engine that has not begun: any content would do.
@@ -364,7 +165,7 @@ fn no_texts() -> Texts {
     [0; TEXTS_SIZE]
 }
 
-// Reads standard input to its end and answers each line.
+// From the first byte of standard input to its end.
 pub fn run(traced: bool) {
     let mut head = no_head();
     let mut links = no_links();
@@ -372,38 +173,28 @@ pub fn run(traced: bool) {
     let mut numbers = no_numbers();
     let mut texts = no_texts();
     let mut outbox = io::large_buffer();
-    let mut line = no_line();
-    let mut chunk = io::buffer();
-    let mut taken = none(traced);
-    let mut turns: u64 = 0xFFFF_FFFF_FFFF_FFFF;
-    while 0 < turns {
-        let got = libc::read(0, &mut chunk);
-        let n = io::count(got, &chunk);
-        if n == 0 {
-            on_end(
-                taken,
-                &mut head,
-                &mut links,
-                &mut searches,
-                &mut numbers,
-                &mut texts,
-                &line,
-                &mut outbox,
-            );
-            return;
-        }
-        let next = on_chunk(
-            taken,
-            &mut head,
-            &mut links,
-            &mut searches,
-            &mut numbers,
-            &mut texts,
-            &mut line,
-            part::front(&chunk, n),
-            &mut outbox,
-        );
-        taken = next;
-        turns -= 1;
-    }
+    let mut line = state::no_line();
+    let mut out = io::buffer();
+    let last = read_all(
+        state::start(traced),
+        &mut head,
+        &mut links,
+        &mut searches,
+        &mut numbers,
+        &mut texts,
+        &mut line,
+        &mut outbox,
+        &mut out,
+    );
+    on_end(
+        last,
+        &mut head,
+        &mut links,
+        &mut searches,
+        &mut numbers,
+        &mut texts,
+        &line,
+        &mut outbox,
+        &mut out,
+    );
 }

@@ -1,75 +1,72 @@
--- `on_chunk` ends: each turn that goes on has used up a byte, and `turns` counts them.
-use mathlib.Core.Path.{_≡_, _∙_}
+-- `on_chunk` hands on the whole chunk: each step takes in a part of it, and then tells what is due.
+use Prim.Native.Nat.{_-_, _≤_}
+use Rattle.engine.specs.Arrays.{engine}
+use Rattle.program.proofs.Handing as laws
+use Rattle.program.specs.Steps.{Ready, Hands}
 use borrow.Author.Needs.{needs}
-use lib.ListN.{length}
+use lib.ListN.{length, drop}
+use mathlib.Core.Path.{_≡_, refl, _∙_}
+use native.Mathlib.Omega.{arith}
 use Rattle.terminal.proofs.on_chunk.Statement.{statement}
 use Rattle.terminal.proofs.on_chunk.Tie as tie
 
 abbrev Inv-loop : tie.InvT-loop
-Inv-loop head₀ links₀ searches₀ numbers₀ texts₀ line₀ chunk outbox₀ running₀ held₀ at₀ turns₀ head links searches numbers texts line outbox running held at turns = (length line ≡ length line₀) × (length outbox ≡ length outbox₀)
+Inv-loop head₀ links₀ searches₀ numbers₀ texts₀ line₀ chunk outbox₀ out₀ state₀ at₀ head links searches numbers texts line outbox out state at =
+    (Ready state line outbox out) × (Hands state₀ (engine head₀ links₀ searches₀ numbers₀ texts₀) line₀ outbox₀ chunk state (engine head links searches numbers texts) line outbox (drop at chunk))
+    × (at ≤ length chunk) × (length line ≡ length line₀) × (length outbox ≡ length outbox₀) × (length out ≡ length out₀)
 
 abbrev μ-loop : tie.MeasureT-loop
-μ-loop head₀ links₀ searches₀ numbers₀ texts₀ line₀ chunk outbox₀ running₀ held₀ at₀ turns₀ head links searches numbers texts line outbox running held at turns = turns
+μ-loop head₀ links₀ searches₀ numbers₀ texts₀ line₀ chunk outbox₀ out₀ state₀ at₀ head links searches numbers texts line outbox out state at = length chunk - at
 
 loop-holds : tie.Need-loop-holds Inv-loop μ-loop
-loop-holds c = search needs
+loop-holds c = (c .before .before .before .before .pre, laws.none _ _ _ _ _, omega arith, refl, refl, refl)
 
 tail-requires : tie.Need-tail-requires Inv-loop μ-loop
 tail-requires c κs = search needs
 
-gather-requires : tie.Need-gather-requires Inv-loop μ-loop
-gather-requires c κs = search needs
+take-in-requires : tie.Need-take-in-requires Inv-loop μ-loop
+take-in-requires c κs = c .before .before .before .before .before .before .before .before .before .before .loop .inv .0
 
-on-event-requires : tie.Need-on-event-requires Inv-loop μ-loop
-on-event-requires c κs = search needs
+write-requires : tie.Need-write-requires Inv-loop μ-loop
+write-requires c κs = search needs
 
-wrapping-add-usize-requires : tie.Need-wrapping-add-usize-requires Inv-loop μ-loop
-wrapping-add-usize-requires c κs = search needs
+tell-requires : tie.Need-tell-requires Inv-loop μ-loop
+tell-requires c κs = omega (arith, c .before .before .before .before .before .before .before .before .before .before .before .take-in .kept .1 .1 .1 .1 .1 .1 .1 .1 .1 .0, c .before .before .before .before .before .before .before .before .before .before .before .before .before .before .before .before .before .before .before .before .before .before .loop .inv .0 .room)
 
-same-length : tie.Need-same-length Inv-loop μ-loop
-same-length c = c .before .before .before .before .before .before .before .before .before .before .before .before .before .before .before .before .gather .ensures .room ∙ c .before .before .before .before .before .before .before .before .before .before .before .before .before .before .before .before .before .before .before .before .loop .inv .0
-
-same-length-2 : tie.Need-same-length-2 Inv-loop μ-loop
-same-length-2 c = c .before .before .before .before .before .before .on-event .kept .1 .1 .1 .1 .1 .1 .1 .1 .0 ∙ c .before .before .before .before .before .before .before .before .before .before .before .before .before .before .before .before .before .before .before .before .loop .inv .1
-
-returns : tie.Need-returns Inv-loop μ-loop
-returns c = search needs
-
-sub-turns : tie.Need-sub-turns Inv-loop μ-loop
-sub-turns c = search needs
+add-at : tie.Need-add-at Inv-loop μ-loop
+add-at c =
+    let good = c .before .before .before .before .before .before .before .before .before .before .before .before .before .before .before .before .before .before .before .before .before .before .before .before .before .before .before .before .before .before .before .good in
+    omega (arith, laws.used-most (c .before .before .before .before .before .before .before .before .before .before .before .before .before .before .before .before .before .before .before .before .before .before .before .before .before .before .before .before .before .before .before .args .chunk .now) (c .before .before .before .before .before .before .before .before .before .before .before .before .before .before .before .before .before .before .before .before .before .before .before .before .before .before .loop .at) (c .before .before .before .before .before .before .before .before .before .before .before .before .before .before .before .before .before .before .tail .ensures) (c .before .before .before .before .before .before .before .before .before .before .before .before .before .before .before .before .before .before .before .before .before .before .before .before .before .before .loop .inv .2) (c .before .before .before .before .before .before .before .before .before .before .before .before .before .before .before .take-in .ensures .most))
 
 loop-less : tie.Need-loop-less Inv-loop μ-loop
-loop-less c = search needs
+loop-less c =
+    omega (arith, laws.used-most (c .before .before .before .before .before .before .before .before .before .before .before .before .before .before .before .before .before .before .before .before .before .before .before .before .before .before .before .before .before .before .before .args .chunk .now) (c .before .before .before .before .before .before .before .before .before .before .before .before .before .before .before .before .before .before .before .before .before .before .before .before .before .before .loop .at) (c .before .before .before .before .before .before .before .before .before .before .before .before .before .before .before .before .before .before .tail .ensures) (c .before .before .before .before .before .before .before .before .before .before .before .before .before .before .before .before .before .before .before .before .before .before .before .before .before .before .loop .inv .2) (c .before .before .before .before .before .before .before .before .before .before .before .before .before .before .before .take-in .ensures .most), laws.used-some (c .before .before .before .before .before .before .before .before .before .before .before .before .before .before .before .before .before .before .before .before .before .before .before .before .before .before .before .before .before .before .before .args .chunk .now) (c .before .before .before .before .before .before .before .before .before .before .before .before .before .before .before .before .before .before .before .before .before .before .before .before .before .before .loop .at) (c .before .before .before .before .before .before .before .before .before .before .before .before .before .before .before .before .before .before .tail .ensures) (c .before .before .before .before .before .before .before .before .before .before .before .before .before .before .before .before .before .before .before .before .before .before .before .before .before .loop-test .taken) (c .before .before .before .before .before .before .before .before .before .before .before .before .before .before .before .take-in .ensures .some))
 
 loop-again : tie.Need-loop-again Inv-loop μ-loop
-loop-again c = (c .before .before .before .before .before .before .before .before .before .before .before .before .before .before .before .before .gather .ensures .room ∙ c .before .before .before .before .before .before .before .before .before .before .before .before .before .before .before .before .before .before .before .before .loop .inv .0, c .before .before .before .before .before .before .on-event .kept .1 .1 .1 .1 .1 .1 .1 .1 .0 ∙ c .before .before .before .before .before .before .before .before .before .before .before .before .before .before .before .before .before .before .before .before .loop .inv .1)
+loop-again c =
+    let i = c .before .before .before .before .before .before .before .before .before .before .before .before .before .before .before .before .before .before .before .before .before .before .before .before .before .before .loop .inv in
+    let t = c .before .before .before .before .before .before .before .before .before .before .before .before .before .before .before .take-in in
+    let u = c .before .before .before .tell in (
+      laws.ready-told (t .result .state) _ (c .before .before .before .before .before .before .before .before .before .before .before .before .before .before .before .before .before .before .before .before .before .before .before .before .before .before .loop .outbox) (c .before .before .before .before .before .before .before .before .before .before .before .before .before .before .before .before .before .before .before .before .before .before .before .before .before .before .loop .out) (t .ensures .under) (u .ensures .0) (u .ensures .1) (i .0 .lent) (t .kept .1 .1 .1 .1 .1 .1 .1 .1 .0) (i .0 .room) (u .kept .1 .1 .0 ∙ t .kept .1 .1 .1 .1 .1 .1 .1 .1 .1 .0),
+      laws._⨟_ (i .1) (laws.further (c .before .before .before .before .before .before .before .before .before .before .before .before .before .before .before .before .before .before .before .before .before .before .before .before .before .before .before .before .before .before .before .args .chunk .now) (c .before .before .before .before .before .before .before .before .before .before .before .before .before .before .before .before .before .before .before .before .before .before .before .before .before .before .loop .at) (t .result .used) (c .before .before .before .before .before .before .before .before .before .before .before .before .before .before .before .before .before .before .tail .ensures) (laws.from-part (c .before .before .before .before .before .before .before .before .before .before .before .before .before .before .before .before .before .before .tail .ensures) (laws._⨟_ (laws.took (t .ensures)) (u .ensures .2 _ _ _)))),
+      laws.used-most (c .before .before .before .before .before .before .before .before .before .before .before .before .before .before .before .before .before .before .before .before .before .before .before .before .before .before .before .before .before .before .before .args .chunk .now) (c .before .before .before .before .before .before .before .before .before .before .before .before .before .before .before .before .before .before .before .before .before .before .before .before .before .before .loop .at) (c .before .before .before .before .before .before .before .before .before .before .before .before .before .before .before .before .before .before .tail .ensures) (c .before .before .before .before .before .before .before .before .before .before .before .before .before .before .before .before .before .before .before .before .before .before .before .before .before .before .loop .inv .2) (c .before .before .before .before .before .before .before .before .before .before .before .before .before .before .before .take-in .ensures .most),
+      t .kept .1 .1 .1 .1 .1 .1 .0 ∙ i .3,
+      t .kept .1 .1 .1 .1 .1 .1 .1 .1 .0 ∙ i .4,
+      u .kept .1 .1 .0 ∙ t .kept .1 .1 .1 .1 .1 .1 .1 .1 .1 .0 ∙ i .5,
+    )
+
+same-length : tie.Need-same-length Inv-loop μ-loop
+same-length c = search needs
+
+same-length-2 : tie.Need-same-length-2 Inv-loop μ-loop
+same-length-2 c = search needs
 
 same-length-3 : tie.Need-same-length-3 Inv-loop μ-loop
 same-length-3 c = search needs
 
-same-length-4 : tie.Need-same-length-4 Inv-loop μ-loop
-same-length-4 c = search needs
-
-returns-2 : tie.Need-returns-2 Inv-loop μ-loop
-returns-2 c = search needs
+returns : tie.Need-returns Inv-loop μ-loop
+returns c = (c .before .loop .inv .0, laws.used-up (c .before .before .before .before .before .before .args .chunk .now) (c .before .loop .at) (c .loop-test .left) (c .before .loop .inv .1))
 
 pub on-chunk-spec : {M : Type 1} → statement M
 on-chunk-spec =
-    tie.close
-    (tie.spec
-    Inv-loop
-    μ-loop
-    loop-holds
-    tail-requires
-    gather-requires
-    on-event-requires
-    wrapping-add-usize-requires
-    same-length
-    same-length-2
-    returns
-    sub-turns
-    loop-less
-    loop-again
-    same-length-3
-    same-length-4
-    returns-2)
+    tie.close (tie.spec Inv-loop μ-loop loop-holds tail-requires take-in-requires write-requires tell-requires add-at loop-less loop-again same-length same-length-2 same-length-3 returns)

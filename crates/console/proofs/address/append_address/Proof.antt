@@ -1,9 +1,11 @@
 -- `append_address` meets its contract: four numbers, one behind the other.
 use mathlib.Core.Path.{ap}
+use native.Mathlib.Omega.{arith}
 use borrow.Author.Needs.{needs}
 use Rattle.console.specs.Decimal.{numberThen}
 use Rattle.console.specs.Address.{addressThen}
 use Rattle.console.proofs.Appending as laws
+use Rattle.console.proofs.Lengths.{octet, address-most}
 use Rattle.console.proofs.address.append_address.Statement.{statement}
 use Rattle.console.proofs.address.append_address.Tie as tie
 
@@ -50,10 +52,13 @@ returns : tie.Need-returns
 unfolding addressThen
 returns c =
     let end = c .before .before .before .before .before .before .before .before .before .before .before .before .before .before .before .before .before .before .before .before .before .before .args .end in
-    laws._⨟_ (laws.text (c .before .before .before .before .before .before .before .before .before .before .before .before .before .before .before .before .before .append-number .ensures) (ap (numberThen 46) (c .before .before .before .before .before .before .before .before .before .before .before .before .before .before .before .before .before .before .byte-at .ensures)))
-    (laws._⨟_ (laws.text (c .before .before .before .before .before .before .before .before .before .before .before .before .append-number2 .ensures) (ap (numberThen 46) (c .before .before .before .before .before .before .before .before .before .before .before .before .before .byte-at2 .ensures)))
-    (laws._⨟_ (laws.text (c .before .before .before .before .before .before .before .append-number3 .ensures) (ap (numberThen 46) (c .before .before .before .before .before .before .before .before .byte-at3 .ensures)))
-    (laws.text (c .before .before .append-number4 .ensures) (ap (numberThen end) (c .before .before .before .byte-at4 .ensures)))))
+    let s = c .before .before .before .before .before .before .before .before .before .before .before .before .before .before .before .before .before .before .before .before .before .before .args .s .now in (
+      laws._⨟_ (laws.text (c .before .before .before .before .before .before .before .before .before .before .before .before .before .before .before .before .before .append-number .ensures) (ap (numberThen 46) (c .before .before .before .before .before .before .before .before .before .before .before .before .before .before .before .before .before .before .byte-at .ensures)))
+          (laws._⨟_ (laws.text (c .before .before .before .before .before .before .before .before .before .before .before .before .append-number2 .ensures) (ap (numberThen 46) (c .before .before .before .before .before .before .before .before .before .before .before .before .before .byte-at2 .ensures)))
+          (laws._⨟_ (laws.text (c .before .before .before .before .before .before .before .append-number3 .ensures) (ap (numberThen 46) (c .before .before .before .before .before .before .before .before .byte-at3 .ensures)))
+          (laws.text (c .before .before .append-number4 .ensures) (ap (numberThen end) (c .before .before .before .byte-at4 .ensures))))),
+      address-most end s (octet (c .before .before .before .before .before .before .before .before .before .before .before .before .before .before .before .before .before .before .byte-at .ensures) (omega arith)) (octet (c .before .before .before .before .before .before .before .before .before .before .before .before .before .byte-at2 .ensures) (omega arith)) (octet (c .before .before .before .before .before .before .before .before .byte-at3 .ensures) (omega arith)) (octet (c .before .before .before .byte-at4 .ensures) (omega arith)),
+    )
 
 pub append-address-spec : {M : Type 1} → statement M
 append-address-spec =

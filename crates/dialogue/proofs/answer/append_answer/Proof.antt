@@ -1,5 +1,7 @@
 -- `append_answer` meets its contract: eight numbers, and the last with the line's end.
+use native.Mathlib.Omega.{arith}
 use Rattle.console.proofs.Appending as laws
+use Rattle.dialogue.proofs.Lengths.{answer-most}
 use Rattle.dialogue.specs.Printing.{answerLine}
 use borrow.Author.Needs.{needs}
 use Rattle.dialogue.proofs.answer.append_answer.Statement.{statement}
@@ -23,7 +25,9 @@ same-length c = search needs
 returns : tie.Need-returns
 unfolding answerLine
 returns c =
-    laws._⨟_ (c .before .before .before .before .before .before .append-numbers .ensures) (c .before .before .append-number .ensures)
+    let a = c .before .before .before .before .before .before .before .before .before .before .before .args .a in
+    let known = c .before .before .before .before .before .before .before .before .before .struct-known .given in
+    (laws._⨟_ (c .before .before .before .before .before .before .append-numbers .ensures) (c .before .before .append-number .ensures), answer-most a (omega arith) (omega arith) (omega arith) (omega arith) (omega arith) (omega arith) (omega arith) (omega arith) (omega arith))
 
 pub append-answer-spec : {M : Type 1} → statement M
 append-answer-spec =

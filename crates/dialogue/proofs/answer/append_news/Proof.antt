@@ -1,5 +1,7 @@
 -- `append_news` meets its contract: its parts, one behind the other.
+use native.Mathlib.Omega.{arith}
 use Rattle.console.proofs.Appending as laws
+use Rattle.dialogue.proofs.Lengths.{news-most}
 use Rattle.text.specs.Bytes.{bytes}
 use Rattle.dialogue.specs.Printing.{newsLine}
 use borrow.Author.Needs.{needs}
@@ -36,7 +38,9 @@ same-length c = search needs
 returns : tie.Need-returns
 unfolding newsLine bytes
 returns c =
-    laws._⨟_ (c .before .before .before .before .before .before .before .before .before .before .before .before .before .before .before .before .before .append .ensures) (laws._⨟_ (c .before .before .before .before .before .before .before .before .before .before .before .before .append-number .ensures) (laws._⨟_ (c .before .before .before .before .before .before .before .append-number2 .ensures) (c .before .before .append-number3 .ensures)))
+    let a = c .before .before .before .before .before .before .before .before .before .before .before .before .before .before .before .before .before .before .before .before .before .args .a in
+    let known = c .before .before .before .struct-known3 .given in
+    (laws._⨟_ (c .before .before .before .before .before .before .before .before .before .before .before .before .before .before .before .before .before .append .ensures) (laws._⨟_ (c .before .before .before .before .before .before .before .before .before .before .before .before .append-number .ensures) (laws._⨟_ (c .before .before .before .before .before .before .before .append-number2 .ensures) (c .before .before .append-number3 .ensures))), news-most a (omega arith) (omega arith) (omega arith))
 
 pub append-news-spec : {M : Type 1} → statement M
 append-news-spec =

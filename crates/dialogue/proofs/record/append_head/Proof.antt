@@ -1,6 +1,7 @@
 -- `append_head` meets its contract: its parts, one behind the other.
 use mathlib.Core.Path.{ap}
 use Rattle.console.proofs.Appending as laws
+use Rattle.dialogue.proofs.Lengths.{head-most}
 use Rattle.console.specs.Decimal.{numberThen}
 use Rattle.console.specs.Address.{addressThen}
 use Rattle.text.specs.Bytes.{bytes}
@@ -35,10 +36,12 @@ same-length c = search needs
 
 returns : tie.Need-returns
 unfolding headLine bytes
-returns c =
-    laws._⨟_ (c .before .before .before .before .before .before .before .before .before .before .before .before .before .before .before .before .append .ensures) (laws._⨟_ (c .before .before .before .before .before .before .before .before .before .before .before .before .append-address .ensures)
-    (laws._⨟_ (laws.text (c .before .before .before .before .before .before .before .append-number .ensures) (ap (numberThen 32) (c .before .before .before .before .before .before .before .before .number-at .ensures .0)))
-    (laws.text (c .before .before .append-address2 .ensures) (ap (addressThen 32) (c .before .before .before .tail .ensures)))))
+returns c = (
+  laws._⨟_ (c .before .before .before .before .before .before .before .before .before .before .before .before .before .before .before .before .append .ensures) (laws._⨟_ (c .before .before .before .before .before .before .before .before .before .before .before .before .append-address .ensures .0)
+      (laws._⨟_ (laws.text (c .before .before .before .before .before .before .before .append-number .ensures) (ap (numberThen 32) (c .before .before .before .before .before .before .before .before .number-at .ensures .0)))
+      (laws.text (c .before .before .append-address2 .ensures .0) (ap (addressThen 32) (c .before .before .before .tail .ensures))))),
+  head-most (c .before .before .before .before .before .before .before .before .before .before .before .before .before .before .before .before .before .before .before .before .before .args .s .now) (c .before .before .before .before .before .before .before .before .before .before .before .before .append-address .ensures .1) (c .before .before .before .before .before .before .before .before .number-at .ensures .0) (c .before .before .before .before .before .before .before .before .number-at .ensures .1) (c .before .before .before .tail .ensures) (c .before .before .append-address2 .ensures .1),
+)
 
 pub append-head-spec : {M : Type 1} → statement M
 append-head-spec =

@@ -3,6 +3,7 @@ use mathlib.Core.Path.{_∙_, ap}
 use Prim.Native.Nat.{ℕ}
 use lib.ListN.{take, drop}
 use Rattle.console.proofs.Appending as laws
+use Rattle.dialogue.proofs.Lengths.{record-most}
 use Rattle.console.specs.Decimal.{numberThen}
 use Rattle.console.specs.Hexadecimal.{hexText}
 use Rattle.dialogue.specs.Printing.{recordLine}
@@ -38,11 +39,13 @@ returns : tie.Need-returns
 unfolding recordLine
 returns c =
     let s = c .before .before .before .before .before .before .before .before .before .before .before .before .before .before .before .before .before .before .before .before .before .args .s .now in
-    let size = c .before .before .before .before .before .before .before .before .before .before .before .before .before .before .before .before .before .before .number-at .ensures .0 in
-    laws._⨟_ (c .before .before .before .before .before .before .before .before .before .before .before .before .before .before .before .before .append-head .ensures)
-    (laws._⨟_ (laws.text (c .before .before .before .before .before .before .before .before .before .before .before .before .append-number .ensures) (ap (numberThen 32) size))
-    (laws._⨟_ (laws.text (c .before .before .before .before .before .before .append-hex .ensures) (ap hexText (c .before .before .before .before .before .before .before .before .front .ensures ∙ ap (take (c .before .before .before .before .before .before .before .before .before .before .before .before .before .before .before .before .before .before .number-at .result)) (c .before .before .before .before .before .before .before .before .before .tail .ensures) ∙ ap (λ (n : ℕ). take n (drop 12 s)) size)))
-    (c .before .before .push .ensures)))
+    let size = c .before .before .before .before .before .before .before .before .before .before .before .before .before .before .before .before .before .before .number-at .ensures .0 in (
+      laws._⨟_ (c .before .before .before .before .before .before .before .before .before .before .before .before .before .before .before .before .append-head .ensures .0)
+          (laws._⨟_ (laws.text (c .before .before .before .before .before .before .before .before .before .before .before .before .append-number .ensures) (ap (numberThen 32) size))
+          (laws._⨟_ (laws.text (c .before .before .before .before .before .before .append-hex .ensures) (ap hexText (c .before .before .before .before .before .before .before .before .front .ensures ∙ ap (take (c .before .before .before .before .before .before .before .before .before .before .before .before .before .before .before .before .before .before .number-at .result)) (c .before .before .before .before .before .before .before .before .before .tail .ensures) ∙ ap (λ (n : ℕ). take n (drop 12 s)) size)))
+          (c .before .before .push .ensures))),
+      record-most s (c .before .before .before .before .before .before .before .before .before .before .before .before .before .before .before .before .append-head .ensures .1) size (c .before .before .before .before .before .before .before .before .before .before .before .before .before .before .before .before .before .before .number-at .ensures .1),
+    )
 
 pub append-record-spec : {M : Type 1} → statement M
 append-record-spec =

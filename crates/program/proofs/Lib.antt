@@ -1,0 +1,7 @@
+-- The laws of the program, one file a subject.
+pub mod Handing
+pub mod Lines
+pub mod Replying
+pub mod Taking
+pub mod Telling
+pub mod Whole

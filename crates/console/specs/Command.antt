@@ -44,6 +44,10 @@ pub record Row : Type 0 where
 abbrev time : Form
 time = UpTo max64
 
+-- the most bytes that an `outbox` line can lend
+abbrev pub outboxMax : ℕ
+outboxMax = 65536
+
 abbrev pub rowOf : Word → Row
 rowOf word.Unknown = record { word = bytes ""; forms = []; gives = Unreadable }
 rowOf word.New = record { word = bytes "new"; forms = U32 ∷ time ∷ []; gives = New }
@@ -58,7 +62,7 @@ rowOf word.Subscribe = record { word = bytes "subscribe"; forms = Text ∷ []; g
 rowOf word.Deadvertise = record { word = bytes "deadvertise"; forms = Text ∷ []; gives = Deadvertise }
 rowOf word.Refresh = record { word = bytes "refresh"; forms = []; gives = Refresh }
 rowOf word.Reset = record { word = bytes "reset"; forms = time ∷ []; gives = Reset }
-rowOf word.Outbox = record { word = bytes "outbox"; forms = UpTo 65536 ∷ []; gives = Lend }
+rowOf word.Outbox = record { word = bytes "outbox"; forms = UpTo outboxMax ∷ []; gives = Lend }
 rowOf word.Hexdata = record { word = bytes "hexdata"; forms = time ∷ Address ∷ U16 ∷ Address ∷ Hex 2000 ∷ []; gives = HexDatagram }
 rowOf word.Hexaddr = record { word = bytes "hexaddr"; forms = U32 ∷ Hex 32 ∷ []; gives = NewHexAddress }
 rowOf word.Hexdeladdr = record { word = bytes "hexdeladdr"; forms = U32 ∷ Hex 32 ∷ []; gives = DeletedHexAddress }

@@ -7,7 +7,7 @@ use native.Mathlib.Omega.{arith}
 use lib.ListN.{length, take, drop, length-drop, drop-of-length-le}
 use Rattle.console.specs.Input.{lineMax, Pending}
 use Rattle.engine.specs.Arrays.{Engine}
-use Rattle.program.specs.Program.{outboxMax}
+use Rattle.console.specs.Command.{outboxMax}
 use Rattle.program.specs.Steps.{pieceMax, toPrint, pieces, Ready, Takes, Tells, Hands, Reads}
 use Rattle.program.specs.declared.state.State.{State}
 use Rattle.program.proofs.Taking.{nothing-held}

@@ -11,6 +11,7 @@ use Rattle.text.specs.Bytes.{bytes}
 use Rattle.console.specs.Input.{Text, Unheard as TooLong}
 use Rattle.console.specs.declared.command.Command.{Command}
 use Rattle.console.specs.declared.command.Command.the-variants as line
+use Rattle.console.specs.Command.{outboxMax}
 use Rattle.engine.specs.Held.{Held}
 use Rattle.engine.specs.Layout.{written}
 use Rattle.engine.specs.Arrays.{Engine, held}
@@ -23,7 +24,7 @@ use Rattle.dialogue.specs.Obeying.{Unheard, Begun, Called, Outcome, Obeys}
 use Rattle.dialogue.specs.Printing.{answerLine, newsLine}
 use Rattle.dialogue.specs.Outbox.{mark}
 use Rattle.dialogue.specs.declared.session.Reply.{Reply}
-use Rattle.program.specs.Program.{Session, Before, Running, Given, firstLent, outboxMax, unread, recordLines, stain, told, gives, reply, commandOf, lentIn}
+use Rattle.program.specs.Program.{Session, Before, Running, Given, firstLent, unread, recordLines, stain, told, gives, reply, commandOf, lentIn}
 use Rattle.program.specs.Steps.{sessionOf, sessionIn, due, Gives, replyText, replied, marked, lends}
 use Rattle.program.specs.declared.state.State.{State}
 

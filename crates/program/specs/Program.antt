@@ -7,8 +7,9 @@ use lib.Dec.{eqb}
 use lib.ListN.{replicate}
 use Rattle.text.specs.Bytes.{bytes}
 use Rattle.console.specs.Input.{Heard, Text, Unheard, input}
-use Rattle.console.specs.Command.{sessionWords, traceWords, command}
+use Rattle.console.specs.Command.{outboxMax, sessionWords, traceWords, command}
 use Rattle.console.specs.declared.command.Command.{Command}
+use Rattle.engine.specs.Sizes.{outboxSize}
 use Rattle.engine.specs.Held.{Held}
 use Rattle.engine.specs.Layout.{written}
 use Rattle.engine.specs.Refusals.{newRefusal}
@@ -18,12 +19,9 @@ use Rattle.dialogue.specs.Asking.{Asked, Nothing, Begin, Lend, Of, asked}
 use Rattle.dialogue.specs.Printing.{answerLine, newsLine, recordLine}
 use Rattle.dialogue.specs.Outbox.{mark, recordAt, clean}
 
--- what is lent to the calls of an engine that has just begun, and the most that an `outbox` line can lend
+-- what is lent to the calls of an engine that has just begun
 abbrev pub firstLent : ℕ
-firstLent = 62880
-
-abbrev pub outboxMax : ℕ
-outboxMax = 65536
+firstLent = outboxSize
 
 -- what lasts from line to line: no engine, or one that an accepted `new` began, and how many bytes are lent to its calls
 pub data Session : Type 0 where

@@ -9,12 +9,13 @@ use Rattle.text.specs.Bytes.{bytes}
 use Rattle.console.specs.Input.{Heard, Text, Unheard, input, Pending}
 use Rattle.console.specs.declared.input.Event.{Event}
 use Rattle.console.specs.declared.input.Event.the-variants.{More, Line, TooLong}
+use Rattle.console.specs.Command.{outboxMax}
 use Rattle.engine.specs.Arrays.{Engine, held}
 use Rattle.dialogue.specs.Asking.{Asked, Nothing, Begin, Lend, Of}
 use Rattle.dialogue.specs.Printing.{answerLine, newsLine}
 use Rattle.dialogue.specs.Outbox.{mark}
 use Rattle.dialogue.specs.declared.session.Reply.{Reply}
-use Rattle.program.specs.Program.{Session, Before, Running, Given, firstLent, outboxMax, recordLines, stain, reply, printed, gives}
+use Rattle.program.specs.Program.{Session, Before, Running, Given, firstLent, recordLines, stain, reply, printed, gives}
 use Rattle.program.specs.declared.state.State.{State}
 
 -- the room that one piece of output is given, which no piece fills

@@ -18,11 +18,12 @@ ghost use mathlib.Core.Bool.{true, false};
 ghost use mathlib.Core.List.{List};
 ghost use Prim.Native.Nat.{ℕ, min, _≤_};
 ghost use lib.ListN.{length, take};
+ghost use Rattle.console.specs.Command.{outboxMax};
 ghost use Rattle.console.specs.Input.{Text, Unheard};
 ghost use Rattle.engine.specs.Arrays.{Engine, engine};
 ghost use Rattle.dialogue.specs.Asking.{Lend, asked};
 ghost use Rattle.dialogue.specs.Obeying.{Obeys};
-ghost use Rattle.program.specs.Program.{outboxMax, commandOf, gives, reply, lentIn};
+ghost use Rattle.program.specs.Program.{commandOf, gives, reply, lentIn};
 ghost use Rattle.program.specs.Steps.{pieceMax, sessionIn, Gives, replyText, marked, lends};
 
 // What is printed at once for a line: how many bytes of the buffer, and the state after it.

@@ -5,6 +5,9 @@ use engine::sizes::OUTBOX_SIZE;
 ghost use mathlib.Core.Path.{_≡_};
 ghost use mathlib.Core.Bool.{Bool, true, false, cond};
 ghost use lib.ListN.{length};
+ghost use Prim.Native.Nat.{_+_};
+ghost use Rattle.console.specs.Input.{lineMax};
+ghost use Rattle.program.specs.Program.{firstLent};
 ghost use Rattle.program.specs.Steps.{replied, holding};
 
 // Room for the longest line with both bytes of its end.
@@ -41,7 +44,7 @@ pub fn start(traced: bool) -> State
 
 // Room for a line.
 pub fn no_line() -> [u8; LINE_SIZE]
-    ensures { λ r. ⌜ length r ≡ 4098 ⌝ }
+    ensures { λ r. ⌜ length r ≡ lineMax + 2 ⌝ }
 {
     [0; LINE_SIZE]
 }
@@ -71,7 +74,7 @@ pub(crate) fn room_of(s: State) -> usize
 
 // An engine that has just begun is lent what all its calls need.
 fn lent_after(s: State) -> usize
-    ensures { λ r. ⌜ r ≡ cond (s .begun) (s .lent) 62880 ⌝ }
+    ensures { λ r. ⌜ r ≡ cond (s .begun) (s .lent) firstLent ⌝ }
 {
     if s.begun { s.lent } else { OUTBOX_SIZE }
 }

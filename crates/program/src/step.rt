@@ -19,8 +19,9 @@ ghost use mathlib.Core.Bool.{true, false};
 ghost use mathlib.Core.List.{List};
 ghost use Prim.Native.Nat.{ℕ, _≤_};
 ghost use lib.ListN.{length, take};
+ghost use Rattle.console.specs.Command.{outboxMax};
 ghost use Rattle.engine.specs.Arrays.{engine};
-ghost use Rattle.program.specs.Program.{outboxMax, stain};
+ghost use Rattle.program.specs.Program.{stain};
 ghost use Rattle.program.specs.Steps.{pieceMax, usedBy, Replies, Ready, Takes, Finishes, Tells};
 
 // The state after a step, how many bytes of the chunk are used up, and how many bytes of the buffer are printed.

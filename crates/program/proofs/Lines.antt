@@ -1,20 +1,20 @@
 -- Laws of the input's lines: the line that a chunk ends, the input's last line, and a line of which more has come than is kept.
 use mathlib.Core.Path.{_≡_, refl, sym, _∙_, ap, subst}
-use mathlib.Core.Bool.{Bool, true, false, cond, and-eq-true-iff}
-use mathlib.Core.List.{List, [], _∷_, _++_, append-assoc, append-nil, map}
-use Prim.Native.Nat.{ℕ, zero, suc, _+_, _-_, min, _≤_, _<_}
+use mathlib.Core.Bool.{Bool, true, false, and-eq-true-iff}
+use mathlib.Core.List.{List, [], _∷_, _++_, append-assoc, map}
+use Prim.Native.Nat.{ℕ, zero, suc, _+_, _-_, _≤_, _<_}
 use native.Mathlib.Omega.{arith}
 use borrow.Author.Tests.{lt-leb, leb-true, leb-false, eqb-true, not-true}
 use lib.Dec.{eqb, leb}
 use lib.ListN.{length, take, drop, getD, length-append, length-take, take-append-drop}
-use lib.Seq.{take-all, take-take, length-take-le}
+use lib.Seq.{take-all, take-take}
 use Rattle.text.specs.Bytes.{indexOf}
-use Rattle.text.specs.Lines.{lines, bare}
+use Rattle.text.specs.Lines.{bare}
 use Rattle.text.proofs.FirstLine.{bare-front}
 use Rattle.console.specs.Each.{all}
 use Rattle.console.specs.Buffer.{Filled}
 use Rattle.console.specs.Input.{lineMax, Heard, Text, Unheard, heard, input, noEnd, upTo}
-use Rattle.console.proofs.Gathering.{all-append, unended, lines-ended, lines-last, bare-short, up-to-none, up-to-end}
+use Rattle.console.proofs.Gathering.{all-append, unended, lines-ended, lines-last, bare-short, up-to-end}
 
 -- a text with byte 10 in it, or without
 data Broken : List ℕ → Type 0 where

@@ -1,11 +1,11 @@
 -- Laws of what a line gives: the engine's reply as it is printed, and the session after it.
 use mathlib.Core.Path.{_≡_, refl, sym, _∙_, ap, subst}
 use mathlib.Core.Bool.{Bool, true, false, cond, _&&_}
-use mathlib.Core.List.{List, [], _∷_, _++_, append-assoc, append-nil}
-use Prim.Native.Nat.{ℕ, zero, suc, _+_, _-_, min, _≤_, _<_}
+use mathlib.Core.List.{List, [], _++_, append-assoc, append-nil}
+use Prim.Native.Nat.{ℕ, _+_, _-_, min, _≤_, _<_}
 use native.Mathlib.Omega.{arith}
 use lib.Dec.{eqb}
-use lib.ListN.{length, take, drop, replicate, length-take, length-replicate}
+use lib.ListN.{length, take, replicate, length-take, length-replicate}
 use lib.Seq.{take-all, take-at}
 use Rattle.text.specs.Bytes.{bytes}
 use Rattle.console.specs.Input.{Text, Unheard as TooLong}
@@ -15,8 +15,7 @@ use Rattle.console.specs.Command.{outboxMax}
 use Rattle.engine.specs.Held.{Held}
 use Rattle.engine.specs.Layout.{written}
 use Rattle.engine.specs.Arrays.{Engine, held}
-use Rattle.engine.specs.Promises.{answered, Answers, Begins}
-use Rattle.engine.specs.Engine.{Step, step, newStep}
+use Rattle.engine.specs.Engine.{step, newStep}
 use Rattle.engine.specs.Refusals.{newRefusal}
 use Rattle.engine.specs.declared.answer.Answer.{Answer}
 use Rattle.dialogue.specs.Asking.{Asked, Nothing, Begin, Lend, Of, asked}

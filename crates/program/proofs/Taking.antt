@@ -6,7 +6,7 @@ use Prim.Native.Nat.{ℕ, zero, suc, _+_, _-_, min, _≤_, _<_}
 use native.Mathlib.Omega.{arith}
 use borrow.Author.Tests.{leb-true, ltb-true, ltb-false}
 use lib.Dec.{leb, ltb}
-use lib.ListN.{length, take, drop, length-take, length-drop, drop-of-length-le}
+use lib.ListN.{length, take, drop, length-take, drop-of-length-le}
 use lib.Seq.{take-all}
 use Rattle.text.specs.Bytes.{indexOf}
 use Rattle.text.specs.Lines.{lines, bare}
@@ -17,7 +17,7 @@ use Rattle.console.specs.declared.input.Event.{Event}
 use Rattle.console.specs.declared.input.Event.the-variants.{More, Line, TooLong}
 use Rattle.console.proofs.Gathering.{all-append, unended, up-to-none}
 use Rattle.engine.specs.Arrays.{Engine}
-use Rattle.program.specs.Program.{Given, reply, printed}
+use Rattle.program.specs.Program.{reply, printed}
 use Rattle.program.specs.Steps.{due, sessionIn, toPrint, Gives, holding, usedBy, Replies, Takes, Finishes}
 use Rattle.program.specs.declared.state.State.{State}
 use Rattle.program.proofs.Lines.{no-end-front, heard-text, heard-none, input-last, line-ended, line-cut, line-text}

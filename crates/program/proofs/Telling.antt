@@ -1,14 +1,14 @@
 -- Laws of telling an answer piece by piece.
 use mathlib.Core.Path.{_≡_, refl, sym, _∙_, ap, subst}
 use mathlib.Core.Bool.{Bool, true, false, cond}
-use mathlib.Core.List.{List, [], _∷_, _++_, append-assoc, append-nil}
-use Prim.Native.Nat.{ℕ, zero, suc, _+_, _-_, _*_, _/_, _≤_, _<_}
+use mathlib.Core.List.{List, [], _++_, append-assoc, append-nil}
+use Prim.Native.Nat.{ℕ, suc, _+_, _-_, _*_, _/_, _≤_, _<_}
 use native.Mathlib.Omega.{arith}
 use native.Mathlib.Numerals.{add-one}
 use lib.Dec.{ltb}
 use lib.ListN.{length, take, drop, length-take}
 use Rattle.text.specs.Bytes.{bytes}
-use Rattle.console.specs.Buffer.{Filled, Appends}
+use Rattle.console.specs.Buffer.{Appends}
 use Rattle.console.proofs.Appending as laws
 use Rattle.console.specs.Input.{input}
 use Rattle.engine.specs.Sizes.{recordSize}
@@ -16,7 +16,7 @@ use Rattle.engine.specs.Arrays.{Engine}
 use Rattle.dialogue.specs.Printing.{recordLine}
 use Rattle.dialogue.specs.Outbox.{recordAt, clean}
 use Rattle.program.specs.Program.{recordLines, stain, printed}
-use Rattle.program.specs.Steps.{pieceMax, due, sessionIn, toPrint, pieces, Tells}
+use Rattle.program.specs.Steps.{pieceMax, due, sessionIn, toPrint, Tells}
 use Rattle.program.specs.declared.state.State.{State}
 
 -- a text that was appended to nothing, with room for it

@@ -1,16 +1,14 @@
 -- However the input is cut into chunks: what a run writes, all in a row, is what the program prints for the whole input.
 use mathlib.Core.Path.{_≡_, refl, sym, _∙_, ap}
-use mathlib.Core.Bool.{Bool, true, false, cond}
-use mathlib.Core.List.{List, [], _∷_, _++_, append-assoc, append-nil}
-use Prim.Native.Nat.{ℕ, zero, suc}
-use lib.ListN.{take, drop}
+use mathlib.Core.Bool.{false}
+use mathlib.Core.List.{List, [], _++_, append-assoc, append-nil}
+use Prim.Native.Nat.{ℕ}
+use lib.ListN.{drop}
 use Rattle.text.specs.Lines.{lines}
 use Rattle.console.specs.Input.{input}
-use Rattle.engine.specs.Arrays.{Engine}
-use Rattle.program.specs.Program.{Before, printed, program}
-use Rattle.program.specs.Steps.{due, sessionIn, toPrint, Tells, Takes, Finishes}
-use Rattle.program.specs.Runs.{Moment, at, remains, Telling, told, piece, Chunk, used-up, part, Run, end, chunk, joined}
-use Rattle.program.specs.declared.state.State.{State}
+use Rattle.program.specs.Program.{printed, program}
+use Rattle.program.specs.Steps.{due, toPrint}
+use Rattle.program.specs.Runs.{Moment, remains, Telling, told, piece, Chunk, used-up, part, Run, end, chunk, joined}
 
 telling-prints : {m m′ : Moment} {text : List ℕ} → Telling m m′ text → (later : List ℕ) → remains m later ≡ text ++ remains m′ later
 telling-prints (told p) later = refl

@@ -1,12 +1,12 @@
 -- The program in steps: what is still to be printed in a state, for whatever input comes later, and what each function of the program does to that. How
 -- the input is cut into chunks is nowhere in it but as `chunk ++ later`.
-use Prim.Native.Nat.{ℕ, zero, suc, _-_, _≤_, _<_}
+use Prim.Native.Nat.{ℕ, suc, _-_, _≤_, _<_}
 use mathlib.Core.Path.{_≡_}
 use mathlib.Core.Bool.{Bool, true, false, cond, _&&_}
-use mathlib.Core.List.{List, [], _∷_, _++_}
+use mathlib.Core.List.{List, [], _++_}
 use lib.ListN.{length, take, drop, replicate}
 use Rattle.text.specs.Bytes.{bytes}
-use Rattle.console.specs.Input.{Heard, Text, Unheard, input, Pending}
+use Rattle.console.specs.Input.{Text, Unheard, input, Pending}
 use Rattle.console.specs.declared.input.Event.{Event}
 use Rattle.console.specs.declared.input.Event.the-variants.{More, Line, TooLong}
 use Rattle.console.specs.Command.{outboxMax}
@@ -15,7 +15,7 @@ use Rattle.dialogue.specs.Asking.{Asked, Nothing, Begin, Lend, Of}
 use Rattle.dialogue.specs.Printing.{answerLine, newsLine}
 use Rattle.dialogue.specs.Outbox.{mark}
 use Rattle.dialogue.specs.declared.session.Reply.{Reply}
-use Rattle.program.specs.Program.{Session, Before, Running, Given, firstLent, recordLines, stain, reply, printed, gives}
+use Rattle.program.specs.Program.{Session, Before, Running, Given, firstLent, recordLines, stain, reply, printed}
 use Rattle.program.specs.declared.state.State.{State}
 
 -- the room that one piece of output is given, which no piece fills

@@ -14,7 +14,7 @@ use engine::sizes::Numbers;
 use engine::sizes::Searches;
 use engine::sizes::Texts;
 ghost use mathlib.Core.Path.{_≡_};
-ghost use mathlib.Core.Bool.{true, false};
+ghost use mathlib.Core.Bool.{false};
 ghost use mathlib.Core.List.{List};
 ghost use Prim.Native.Nat.{ℕ, min, _≤_};
 ghost use lib.ListN.{length, take};

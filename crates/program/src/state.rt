@@ -3,7 +3,7 @@ use console::input::LINE_MAX;
 use dialogue::session::Reply;
 use engine::sizes::OUTBOX_SIZE;
 ghost use mathlib.Core.Path.{_≡_};
-ghost use mathlib.Core.Bool.{Bool, true, false, cond};
+ghost use mathlib.Core.Bool.{false, cond};
 ghost use lib.ListN.{length};
 ghost use Prim.Native.Nat.{_+_};
 ghost use Rattle.console.specs.Input.{lineMax};

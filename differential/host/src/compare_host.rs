@@ -50,7 +50,7 @@ impl Host {
         let answer = match (line?, &mut self.engine) {
             (Line::Call(Call::New { seed, now }), None) => match Engine::new(seed, now) {
                 Ok(engine) => Answer { poll: self.engine.insert(engine).poll(), ..Answer::default() },
-                Err(refusal) => Answer { refusal: refusal.number(), ..Answer::default() },
+                Err(start) => Answer { refusal: start.refusal.number(), poll: start.engine.poll(), ..Answer::default() },
             },
             (Line::Call(Call::New { .. }), Some(_)) | (_, None) => return None,
             (Line::Outbox(lent), Some(_)) => {

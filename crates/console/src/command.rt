@@ -11,7 +11,7 @@ ghost use Rattle.text.specs.Bytes.{equal};
 ghost use Rattle.console.specs.Command.{rowOf, sessionWords, traceWords, wordIn, u16In, u32In, u64In, partIn, isReadable, readsAs, command, formsOf, dataAt, built, readable};
 
 // The most bytes that an `outbox` line can lend.
-const OUTBOX_MAX: u64 = 65536;
+pub const OUTBOX_MAX: u64 = 65536;
 
 // The first field of a line.
 pub enum Word {

@@ -1,4 +1,5 @@
 -- The laws of the program, one file a subject.
+pub mod Fitting
 pub mod Handing
 pub mod Lines
 pub mod Replying

@@ -5,6 +5,7 @@ use crate::line::Said;
 use crate::state;
 use crate::state::State;
 use console::buffer;
+use console::command::OUTBOX_MAX;
 use console::input;
 use console::input::Event;
 use console::part;
@@ -15,8 +16,9 @@ use engine::sizes::Numbers;
 use engine::sizes::Searches;
 use engine::sizes::Texts;
 ghost use mathlib.Core.Path.{_≡_};
-ghost use mathlib.Core.Bool.{true, false};
+ghost use mathlib.Core.Bool.{true, false, _&&_};
 ghost use Prim.Native.Nat.{_≤_};
+ghost use lib.Dec.{eqb, leb};
 ghost use lib.ListN.{length, take};
 ghost use Rattle.console.specs.Command.{outboxMax};
 ghost use Rattle.engine.specs.Arrays.{engine};
@@ -80,6 +82,27 @@ fn used_by(event: Event, all: usize) -> usize
     }
 }
 
+// The most bytes of one piece.
+const PIECE_MAX: usize = 4096;
+
+// Whether a step is lent the whole outbox and a buffer with room for a piece.
+fn fits(outbox: &[u8], out: &[u8]) -> bool
+    ensures { λ r. ⌜ r ≡ eqb (length (now (outbox .entry))) outboxMax && leb pieceMax (length (now (out .entry))) ⌝ }
+{
+    (outbox.len() as u64 == OUTBOX_MAX) & (PIECE_MAX <= out.len())
+}
+
+// A step that is lent too little does nothing.
+fn idle(s: State) -> Step
+    ensures { λ r. ⌜ r ≡ record { state = s; used = 0; len = 0 } ⌝ }
+{
+    Step {
+        state: s,
+        used: 0,
+        len: 0,
+    }
+}
+
 // Takes in a chunk up to its first line end, or all of it.
 pub fn take_in(
     s: State,
@@ -93,9 +116,11 @@ pub fn take_in(
     outbox: &mut [u8],
     out: &mut [u8],
 ) -> Step
-    requires { ⌜ Ready s (now line) (now outbox) (now out) ⌝ }
-    ensures { λ r. ⌜ Takes s (engine (now (head .entry)) (now (links .entry)) (now (searches .entry)) (now (numbers .entry)) (now (texts .entry))) (now (line .entry)) (now (outbox .entry)) (now (chunk .entry)) (r .state) (engine (now (head .exit)) (now (links .exit)) (now (searches .exit)) (now (numbers .exit)) (now (texts .exit))) (now (line .exit)) (now (outbox .exit)) (r .used) (take (r .len) (now (out .exit))) ⌝ }
+    ensures { λ r. ⌜ (Ready s (now (line .entry)) (now (outbox .entry)) (now (out .entry)) → Takes s (engine (now (head .entry)) (now (links .entry)) (now (searches .entry)) (now (numbers .entry)) (now (texts .entry))) (now (line .entry)) (now (outbox .entry)) (now (chunk .entry)) (r .state) (engine (now (head .exit)) (now (links .exit)) (now (searches .exit)) (now (numbers .exit)) (now (texts .exit))) (now (line .exit)) (now (outbox .exit)) (r .used) (take (r .len) (now (out .exit)))) ⌝ }
 {
+    if !fits(outbox, out) {
+        return idle(s);
+    }
     let event = input::gather(line, s.held, chunk);
     let said = on_event(
         s,
@@ -129,9 +154,11 @@ pub fn finish(
     outbox: &mut [u8],
     out: &mut [u8],
 ) -> Step
-    requires { ⌜ Ready s (now line) (now outbox) (now out) ⌝ }
-    ensures { λ r. ⌜ Finishes s (engine (now (head .entry)) (now (links .entry)) (now (searches .entry)) (now (numbers .entry)) (now (texts .entry))) (now (line .entry)) (now (outbox .entry)) (r .state) (engine (now (head .exit)) (now (links .exit)) (now (searches .exit)) (now (numbers .exit)) (now (texts .exit))) (now (outbox .exit)) (take (r .len) (now (out .exit))) ⌝ }
+    ensures { λ r. ⌜ (Ready s (now (line .entry)) (now (outbox .entry)) (now (out .entry)) → Finishes s (engine (now (head .entry)) (now (links .entry)) (now (searches .entry)) (now (numbers .entry)) (now (texts .entry))) (now (line .entry)) (now (outbox .entry)) (r .state) (engine (now (head .exit)) (now (links .exit)) (now (searches .exit)) (now (numbers .exit)) (now (texts .exit))) (now (outbox .exit)) (take (r .len) (now (out .exit)))) ⌝ }
 {
+    if !fits(outbox, out) {
+        return idle(s);
+    }
     let event = input::finish(line, s.held);
     let said = on_event(
         s,
@@ -166,9 +193,11 @@ fn say_stain(out: &mut [u8], lent: &[u8], n: usize) -> usize
 
 // Tells the next piece of what is due of an answer: a record, or behind the last whether a call wrote what it should not.
 pub fn tell(s: State, outbox: &[u8], out: &mut [u8]) -> Step
-    requires { ⌜ (s .telling ≡ true) × (pieceMax ≤ length (now out)) ⌝ }
-    ensures { λ r. ⌜ Tells s (now (outbox .entry)) (r .state) (take (r .len) (now (out .exit))) ⌝ }
+    ensures { λ r. ⌜ (s .telling ≡ true → pieceMax ≤ length (now (out .entry)) → Tells s (now (outbox .entry)) (r .state) (take (r .len) (now (out .exit)))) ⌝ }
 {
+    if out.len() < PIECE_MAX {
+        return idle(s);
+    }
     let lent = part::front(outbox, s.room);
     if s.records <= s.next {
         let next = state::told_to(s, false, s.next);

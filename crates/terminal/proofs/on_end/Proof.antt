@@ -5,7 +5,7 @@ use Rattle.terminal.proofs.on_end.Statement.{statement}
 use Rattle.terminal.proofs.on_end.Tie as tie
 
 finish-requires : tie.Need-finish-requires
-finish-requires c κs = c .before .before .before .before .before .before .before .before .before .before .pre
+finish-requires c κs = search needs
 
 write-requires : tie.Need-write-requires
 write-requires c κs = search needs

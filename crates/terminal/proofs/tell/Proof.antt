@@ -7,6 +7,7 @@ use borrow.Author.Needs.{needs}
 use lib.ListN.{length}
 use mathlib.Core.List.{List}
 use mathlib.Core.Path.{_≡_, refl, _∙_}
+use native.Mathlib.Omega.{arith}
 use Rattle.terminal.proofs.tell.Statement.{statement}
 use Rattle.terminal.proofs.tell.Tie as tie
 
@@ -26,11 +27,12 @@ write-requires : tie.Need-write-requires Inv-loop μ-loop
 write-requires c κs = search needs
 
 loop-less : tie.Need-loop-less Inv-loop μ-loop
-loop-less c = c .before .before .before .before .before .tell .ensures .fewer
+loop-less c = c .before .before .before .before .before .tell .ensures (c .before .before .before .before .before .before .before .loop-test .taken) (omega (arith, c .before .before .before .before .before .before .before .before .loop .inv .0, c .before .before .before .before .before .before .before .before .before .before .before .pre)) .fewer
 
 loop-again : tie.Need-loop-again Inv-loop μ-loop
 loop-again c =
-    (c .before .before .before .before .before .tell .kept .1 .1 .0 ∙ c .before .before .before .before .before .before .before .before .loop .inv .0, c .before .before .before .before .before .tell .ensures .held ∙ c .before .before .before .before .before .before .before .before .loop .inv .1, λ e line rest. laws._⨟_ (c .before .before .before .before .before .before .before .before .loop .inv .2 e line rest) (laws.told-piece (c .before .before .before .before .before .tell .ensures) e line rest))
+    let told = c .before .before .before .before .before .tell .ensures (c .before .before .before .before .before .before .before .loop-test .taken) (omega (arith, c .before .before .before .before .before .before .before .before .loop .inv .0, c .before .before .before .before .before .before .before .before .before .before .before .pre)) in
+    (c .before .before .before .before .before .tell .kept .1 .1 .0 ∙ c .before .before .before .before .before .before .before .before .loop .inv .0, told .held ∙ c .before .before .before .before .before .before .before .before .loop .inv .1, λ e line rest. laws._⨟_ (c .before .before .before .before .before .before .before .before .loop .inv .2 e line rest) (laws.told-piece told e line rest))
 
 same-length : tie.Need-same-length Inv-loop μ-loop
 same-length c = search needs

@@ -3,10 +3,17 @@ use Rattle.dialogue.specs.Outbox.{recordAt}
 use Rattle.dialogue.specs.Printing.{recordLine}
 use Rattle.program.proofs.Telling.{written-whole, record-fits, tells-record, tells-last}
 use Rattle.program.specs.Program.{stain}
-use borrow.Author.Needs.{needs}
 use mathlib.Core.Path.{_∙_, ap}
+use native.Mathlib.Omega.{arith}
+use borrow.Author.Needs.{needs}
 use Rattle.program.proofs.step.tell.Statement.{statement}
 use Rattle.program.proofs.step.tell.Tie as tie
+
+idle-requires : tie.Need-idle-requires
+idle-requires c κs = search needs
+
+returns : tie.Need-returns
+returns c = λ telling room. absurd (omega (arith, room))
 
 front-requires : tie.Need-front-requires
 front-requires c κs = search needs
@@ -20,10 +27,11 @@ say-stain-requires c κs = search needs
 same-length : tie.Need-same-length
 same-length c = search needs
 
-returns : tie.Need-returns
-returns c =
-    let a = c .before .before .before .before .before .before .before .before .before .before .args in
-    tells-last (a .s) (a .outbox .now) (c .before .before .before .before .before .before .before .before .before .before .pre .0) (c .before .before .before .before .before .if1 .taken) (c .before .before .before .before .told-to .ensures) (c .before .before .say-stain .ensures ∙ ap (stain (a .s .records)) (c .before .before .before .before .before .before .before .front .ensures))
+returns-2 : tie.Need-returns-2
+returns-2 c =
+    λ telling room.
+    let a = c .before .before .before .before .before .before .before .before .before .before .before .args in
+    tells-last (a .s) (a .outbox .now) telling (c .before .before .before .before .before .if2 .taken) (c .before .before .before .before .told-to .ensures) (c .before .before .say-stain .ensures ∙ ap (stain (a .s .records)) (c .before .before .before .before .before .before .before .front .ensures))
 
 add-told-to : tie.Need-add-told-to
 add-told-to c = search needs
@@ -40,13 +48,28 @@ append-record-requires c κs = search needs
 same-length-2 : tie.Need-same-length-2
 same-length-2 c = search needs
 
-returns-2 : tie.Need-returns-2
-returns-2 c =
-    let a = c .before .before .before .before .before .before .before .before .before .before .before .before .args in
-    tells-record (a .s) (a .outbox .now) (c .before .before .before .before .before .before .before .before .before .before .before .before .pre .0) (c .before .before .before .before .before .before .before .if1 .left) (c .before .before .before .before .before .told-to2 .ensures)
-    (written-whole (c .before .before .append-record .ensures .0) (record-fits (a .s .next) (c .before .before .before .before .before .before .before .before .before .front .result .now) (c .before .before .before .record-at .ensures) (c .before .before .append-record .ensures .1) (c .before .before .before .before .before .before .before .before .before .before .before .before .pre .1))
+returns-3 : tie.Need-returns-3
+returns-3 c =
+    λ telling room.
+    let a = c .before .before .before .before .before .before .before .before .before .before .before .before .before .args in
+    tells-record (a .s) (a .outbox .now) telling (c .before .before .before .before .before .before .before .if2 .left) (c .before .before .before .before .before .told-to2 .ensures)
+    (written-whole (c .before .before .append-record .ensures .0) (record-fits (a .s .next) (c .before .before .before .before .before .before .before .before .before .front .result .now) (c .before .before .before .record-at .ensures) (c .before .before .append-record .ensures .1) room)
     ∙ ap recordLine (c .before .before .before .record-at .ensures ∙ ap (recordAt (a .s .next)) (c .before .before .before .before .before .before .before .before .before .front .ensures)))
 
 pub tell-spec : {M : Type 1} → statement M
 tell-spec =
-    tie.close (tie.spec front-requires told-to-requires say-stain-requires same-length returns add-told-to told-to-requires-2 record-at-requires append-record-requires same-length-2 returns-2)
+    tie.close
+    (tie.spec
+    idle-requires
+    returns
+    front-requires
+    told-to-requires
+    say-stain-requires
+    same-length
+    returns-2
+    add-told-to
+    told-to-requires-2
+    record-at-requires
+    append-record-requires
+    same-length-2
+    returns-3)

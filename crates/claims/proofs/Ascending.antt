@@ -82,13 +82,6 @@ module _ {K A : Type 0} (k : Key K A) (o : StrictOrder (k .below) (k .same)) whe
       ascending-cond (k .below (k .of a) x) (λ e. under (each-leave k x u) (ascending-leave x h))
       (λ e. ascending-cond (k .same (k .of a) x) (λ s. h) (λ s. under u h))
 
-  -- a member is known
-  pub in-known : {l : List A} → Ascending k l → (a : A) → In a l → known k (k .of a) l ≡ true
-  unfolding known
-  in-known (under {a = b} {l = l} u h) a (first e) =
-      rw (e, o .irreflexive (k .of b), o .same-refl (k .of b))
-  in-known (under {a = b} {l = l} u h) a (after i) = rw (each-at u a i) (in-known h a i)
-
   -- of two members with one key each is the other
   apart : (a b c : A) → k .of a ≡ k .of b → c ≡ a → k .below (k .of c) (k .of b) ≡ true → ⊥
   apart a b c s e u = true≢false (sym u ∙ ap (λ (x : K). k .below x (k .of b)) (ap (k .of) e ∙ s) ∙ o .irreflexive (k .of b))
@@ -98,17 +91,6 @@ module _ {K A : Type 0} (k : Key K A) (o : StrictOrder (k .below) (k .same)) whe
   in-one (under {a = c} u h) a b (first e) (after j) s = absurd (apart a b c s (sym e) (each-at u b j))
   in-one (under {a = c} u h) a b (after i) (first f) s = absurd (apart b a c (sym s) (sym f) (each-at u a i))
   in-one (under u h) a b (after i) (after j) s = in-one h a b i j s
-
-  -- and what is known is a member
-  pub known-in : (x : K) (l : List A) → known k x l ≡ true → (a : A) × In a l × (k .of a ≡ x)
-  unfolding known
-  known-in x [] e = absurd (false≢true e)
-  known-in x (a ∷ l) e = go (k .below (k .of a) x) (k .same (k .of a) x) refl (known-in x l) e
-    where
-      go : (y z : Bool) → k .same (k .of a) x ≡ z → (known k x l ≡ true → (b : A) × In b l × (k .of b ≡ x)) → cond y (known k x l) z ≡ true →
-          (b : A) × In b (a ∷ l) × (k .of b ≡ x)
-      go true z s h e = let m = h e in (m .0, after (m .1), m .2)
-      go false z s h e = (a, first refl, o .same-is (k .of a) x (s ∙ e))
 
 -- a function that keeps the keys keeps the order
 module _ {K A : Type 0} (k : Key K A) (f : A → A) (keeps : (a : A) → k .of (f a) ≡ k .of a) where

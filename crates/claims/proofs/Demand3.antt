@@ -28,7 +28,7 @@ use Rattle.engine.proofs.Members.{Each, nobody, both, each-at}
 use Rattle.claims.proofs.Agreement.{Table, Agree, SameCounts, no-counts, plus-same, same-counts, step-same, turned-same, announced-same, served-same}
 use Rattle.claims.proofs.Balance.{ledger-level}
 use Rattle.claims.proofs.Openings.{LoneWait, Answering, traced, sole-opener, opened-matches}
-use Rattle.claims.proofs.Bound.{records-bound}
+use Rattle.engine.proofs.Bound.{records-bound}
 use Rattle.claims.proofs.Reachable.{Reachable, few-of, reachable-fresh, reachable-step}
 use Rattle.claims.proofs.Messages.{step-built}
 

@@ -1,13 +1,6 @@
--- Demand 3 of what a host links, in one place: the code of each exported call meets its contract, every log of what the contracts give is as claimed, and every list of calls has such a log.
-use Prim.Native.Nat.{ℕ}
-use mathlib.Core.List.{List}
-use Rattle.engine.specs.Calls.{Call}
-use Rattle.claims.specs.Claim.{Log, Claim}
-use Rattle.claims.specs.EveryList.{Word, Lent, Logged}
-use Rattle.engine.specs.Arrays.{Engine}
-use Rattle.engine.specs.declared.answer.Answer.{Answer}
-use Rattle.engine.proofs.Contracts.{News, Gives}
+-- The certificate of the functions that a host links.
 use Rattle.host.proofs.Exports.{exports}
+use Rattle.claims.proofs.Certificate.{Certificate}
 use Rattle.claims.proofs.Lists.{exports-claim, exports-logged}
 use Rattle.host.proofs.exported.kohlsilk_lent_new.Statement as new
 use Rattle.host.proofs.exported.kohlsilk_lent_new.Met as new-met
@@ -34,36 +27,37 @@ use Rattle.host.proofs.exported.kohlsilk_lent_handle_timeout.Met as handle-time
 use Rattle.host.proofs.exported.kohlsilk_lent_reset_refresh_timer.Statement as reset-refresh-timer
 use Rattle.host.proofs.exported.kohlsilk_lent_reset_refresh_timer.Met as reset-refresh-timer-met
 
-pub record Certificate (M : Type 1) : Type 2 where
-  pub new-meets : new.statement M
-  pub new-link-meets : new-link.statement M
-  pub deleted-link-meets : deleted-link.statement M
-  pub new-address-meets : new-address.statement M
-  pub deleted-address-meets : deleted-address.statement M
-  pub subscribe-meets : subscribe.statement M
-  pub advertise-meets : advertise.statement M
-  pub deadvertise-meets : deadvertise.statement M
-  pub refresh-meets : refresh.statement M
-  pub on-data-meets : on-data.statement M
-  pub handle-timeout-meets : handle-timeout.statement M
-  pub reset-refresh-timer-meets : reset-refresh-timer.statement M
-  pub claim : {seed time : ℕ} {cs : List Call} {as′ : List Answer} {e : Engine} → (l : Log (News exports) (Gives exports) seed time cs as′ e) → Claim l
-  pub logs : (seed time : ℕ) → Word seed → (lent : List (Call × List ℕ)) → Lent lent → Logged (News exports) (Gives exports) seed time lent
+abbrev Meet : Type 1 → Type 2
+Meet M =
+    new.statement M
+    × new-link.statement M
+    × deleted-link.statement M
+    × new-address.statement M
+    × deleted-address.statement M
+    × subscribe.statement M
+    × advertise.statement M
+    × deadvertise.statement M
+    × refresh.statement M
+    × on-data.statement M
+    × handle-timeout.statement M
+    × reset-refresh-timer.statement M
 
-pub certificate : (M : Type 1) → Certificate M
+pub certificate : (M : Type 1) → Certificate (Meet M) exports
 certificate M = record {
-  new-meets = new-met.met;
-  new-link-meets = new-link-met.met;
-  deleted-link-meets = deleted-link-met.met;
-  new-address-meets = new-address-met.met;
-  deleted-address-meets = deleted-address-met.met;
-  subscribe-meets = subscribe-met.met;
-  advertise-meets = advertise-met.met;
-  deadvertise-meets = deadvertise-met.met;
-  refresh-meets = refresh-met.met;
-  on-data-meets = on-data-met.met;
-  handle-timeout-meets = handle-timeout-met.met;
-  reset-refresh-timer-meets = reset-refresh-timer-met.met;
+  meet = (
+    new-met.met,
+    new-link-met.met,
+    deleted-link-met.met,
+    new-address-met.met,
+    deleted-address-met.met,
+    subscribe-met.met,
+    advertise-met.met,
+    deadvertise-met.met,
+    refresh-met.met,
+    on-data-met.met,
+    handle-timeout-met.met,
+    reset-refresh-timer-met.met,
+  );
   claim = exports-claim;
   logs = exports-logged;
 }

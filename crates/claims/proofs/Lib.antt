@@ -3,7 +3,6 @@ mod LeafLaws
 mod Rows
 mod Ascending
 mod Orders
-mod Bound
 mod Reachable
 mod Agreement
 mod Balance
@@ -12,7 +11,9 @@ mod Messages
 mod Storing
 mod Ranges
 mod Demand3
+mod OtherContents
 mod EveryList
 mod Lists
 mod Certificate
+mod EngineCertificate
 mod ExportsCertificate

@@ -2,7 +2,7 @@
 -- `new` begins so, and each call, accepted or refused, keeps it.
 use mathlib.Core.Path.{_≡_, refl, sym, ap}
 use mathlib.Core.Bool.{Bool, true, false, cond, not, _&&_, true≢false}
-use mathlib.Core.List.{List, [], _∷_, _++_, List·Memᴰ as In}
+use mathlib.Core.List.{List, [], _∷_, _++_}
 use Prim.Native.Nat.{ℕ, zero, suc, _+_, _-_, _≤_}
 use native.Mathlib.Omega.{arith}
 use lib.Dec.{leb, eqb}
@@ -27,10 +27,10 @@ use Rattle.engine.specs.declared.advertisement.ResponseNeeded.{ResponseNeeded}
 use Rattle.engine.specs.declared.advertisement.ResponseNeeded.the-variants.{None, Multicast, Unicast}
 use Rattle.claims.proofs.LeafLaws.{Laws}
 use Rattle.engine.proofs.Members.{Each, nobody, both, each-append, each-map, each-enter, each-leave}
-use Rattle.claims.proofs.Ascending.{Ascending, empty, ascending-enter, ascending-leave, ascending-map, in-known, known-in, length-enter, length-enter-known, length-leave}
+use Rattle.claims.proofs.Ascending.{Ascending, empty, ascending-enter, ascending-leave, ascending-map, length-enter, length-enter-known, length-leave}
 use Rattle.claims.proofs.Orders.{by-name, by-number}
 use Rattle.engine.proofs.Accepted.{Passed, passed, Fits, fits-passed, Single, single, Brings, brings}
-use Rattle.claims.proofs.Bound.{Few, at-few}
+use Rattle.engine.proofs.Bound.{Few, at-few}
 
 -- the answer type of a reply that waits for one searcher
 abbrev pub AnswerFits : ResponseNeeded → Text → Type 0
@@ -68,13 +68,6 @@ pub record Reachable (h : Held) : Type 0 where
 
 pub few-of : (h : Held) → Reachable h → Few (h .context) (h .advertisements)
 few-of h r = record { names = r .listed .few; subscriptions = r .subscribed .few; links = r .linked .few; addresses = r .linked .addresses }
-
--- each name is held once, and `known` says whether it is
-pub held-known : (h : Held) → Reachable h → (a : Advertisement) → In a (h .advertisements) → known advertised (a .name) (h .advertisements) ≡ true
-held-known h r a i = in-known advertised by-name (r .listed .order) a i
-
-pub known-held : (h : Held) (name : Text) → known advertised name (h .advertisements) ≡ true → (a : Advertisement) × In a (h .advertisements) × (a .name ≡ name)
-known-held h name e = known-in advertised by-name name (h .advertisements) e
 
 -- ---- the advertisements
 and-false : (a b : Bool) → a ≡ true → (a && b) ≡ false → b ≡ false

@@ -5,7 +5,7 @@ use mathlib.Core.List.{List, [], _∷_, map}
 use Prim.Native.Nat.{ℕ, _+_, _*_, _≤_}
 use native.Mathlib.Omega.{arith}
 use native.Mathlib.Nat.{mul-le-mul, le-trans}
-use lib.ListN.{length, take, length-append, length-map, length-take}
+use lib.ListN.{length, length-append, length-map}
 use Rattle.text.specs.Bytes.{equal}
 use Rattle.engine.specs.Sizes.{recordsMax, advertisementsMax, subscriptionsMax, addressesMax, sourcesMax}
 use Rattle.engine.specs.Target.{ssdpAll}
@@ -14,13 +14,6 @@ use Rattle.engine.specs.Records.{SearchFrom, flat, anyAll, searchesOf, n
 use Rattle.engine.specs.declared.advertisement.ResponseNeeded.{ResponseNeeded}
 use Rattle.engine.specs.declared.advertisement.ResponseNeeded.the-variants.{None, Multicast, Unicast}
 use Rattle.engine.proofs.Flat.{flat-each, flat-most}
-
--- no more is held than the arrays have room for
-pub taken-most : {A : Type 0} (l : List A) (n : ℕ) {c : ℕ} → length l ≡ c → length (take n l) ≤ c
-taken-most l n e = omega (arith, length-take n l)
-
-pub mapped-most : {A B : Type 0} (f : A → B) (l : List A) (n : ℕ) {c : ℕ} → length l ≡ c → length (map f (take n l)) ≤ c
-mapped-most f l n e = omega (arith, length-map (take n l) f, length-take n l)
 
 -- the searches of a refresh are no more than the subscriptions
 pub searches-most : (ts : List Text) → length (searchesOf ts) ≤ length ts

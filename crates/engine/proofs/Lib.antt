@@ -24,6 +24,7 @@ pub mod OneRecord
 pub mod Runs
 pub mod Announcing
 pub mod Counting
+pub mod Copies
 pub mod TableRows
 pub mod Moves
 pub mod NameRows
@@ -32,6 +33,7 @@ pub mod SearchRows
 pub mod Wanting
 pub mod TablePasses
 pub mod TableRuns
+pub mod Bound
 pub mod Heads
 pub mod Lending
 pub mod Answering

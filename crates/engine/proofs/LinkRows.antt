@@ -8,8 +8,8 @@ use native.Mathlib.Numerals.{add-one}
 use native.Mathlib.Omega.{arith}
 use borrow.Author.Tests.{eqb-true, le-leb}
 use lib.Dec.{eqb, leb}
-use lib.ListN.{length, take, drop, set, getD, length-set, length-drop, List·getD-map, drop-of-length-le}
-use lib.Seq.{take-all, take-suc, take-suc-set, take-at, drop-at, length-take-le, getD-take, getD-drop, drop-cons}
+use lib.ListN.{length, take, drop, set, getD, length-drop, length-map, List·getD-map, drop-of-length-le}
+use lib.Seq.{take-all, take-suc, getD-take, getD-drop, drop-cons}
 use mir.Syntax.{w32}
 use mir.Val.{Val}
 use denote.Plain.{UInt}
@@ -27,7 +27,6 @@ use Rattle.engine.specs.Replies.{one}
 use Rattle.engine.specs.Arrays.{low32, firstAddress, linkWidth, linkNumbers, linkIn, linkRows, linkAtRow, linkCount, linksIn}
 use Rattle.engine.specs.Changes.{LinkFilled, LinksAfter}
 use Rattle.engine.specs.declared.interface.Interface.{Interface}
-use Rattle.engine.specs.declared.interface.LinkLookup.{LinkLookup}
 use Rattle.engine.specs.declared.source.Sources.{Sources}
 use Rattle.engine.specs.declared.table.Spot.{Spot}
 use Rattle.engine.proofs.Slots.{clamped}
@@ -51,74 +50,16 @@ map-take f zero l = refl
 map-take f (suc i) [] = refl
 map-take f (suc i) (a ∷ l) = ap (λ (t : List ℕ). f a ∷ t) (map-take f i l)
 
-map-snoc : (f : ℕ → ℕ) (l : List ℕ) (a : ℕ) → map f (l ++ (a ∷ [])) ≡ map f l ++ (f a ∷ [])
-map-snoc f [] a = refl
-map-snoc f (x ∷ l) a = ap (λ (t : List ℕ). f x ∷ t) (map-snoc f l a)
+-- ---- the addresses of a row, one by one and all
+pub addresses-enough : (row : List ℕ) → length row ≡ linkWidth → addressesMax ≤ length (map low32 (drop firstAddress row))
+addresses-enough row wide = omega (arith, length-map (drop firstAddress row) low32, length-drop firstAddress row)
 
--- ---- the loop that reads the addresses of a row: the first i stand in `out`
-module _ (row : List ℕ) where
-  pub record Reading (i : ℕ) (out : List ℕ) : Type 0 where
-    pub few : i ≤ addressesMax
-    pub size : length out ≡ addressesMax
-    pub done : take i out ≡ map low32 (take i (drop firstAddress row))
+pub address-is : (row : List ℕ) (i : ℕ) → low32 (getD row (firstAddress + i) 0) ≡ getD (map low32 (drop firstAddress row)) i 0
+address-is row i = sym (List·getD-map low32 (drop firstAddress row) i 0 ∙ ap low32 (getD-drop firstAddress row i 0))
 
-  module _ (wide : length row ≡ linkWidth) where
-    behind : length (drop firstAddress row) ≡ addressesMax
-    behind = omega (arith, length-drop firstAddress row)
-
-    pub read-turn : {i : ℕ} {out : List ℕ} {x : ℕ} → i < addressesMax → x ≡ low32 (getD row (firstAddress + i) 0) → Reading i out → Reading (i + 1) (set out i x)
-    read-turn {i} {out} {x} h e r =
-        let d = drop firstAddress row in
-        let v : x ≡ low32 (getD d i 0) = e ∙ ap low32 (sym (getD-drop firstAddress row i 0)) in
-        record {
-          few = omega arith;
-          size = length-set out i x ∙ r .size;
-          done =
-              ap (λ (k : ℕ). take k (set out i x)) (add-one i)
-              ∙ take-suc-set out i x (omega (arith, r .size))
-              ∙ (λ j. r .done j ++ (v j ∷ []))
-              ∙ sym (map-snoc low32 (take i d) (getD d i 0))
-              ∙ ap (map low32) (sym (take-suc d i 0 (omega (arith, behind))) ∙ ap (λ (k : ℕ). take k d) (sym (add-one i)));
-        }
-
-    pub read-over : {i : ℕ} {out : List ℕ} → addressesMax ≤ i → Reading i out → out ≡ map low32 (drop firstAddress row)
-    read-over {i} {out} h r =
-        sym (take-all i out (omega (arith, r .size))) ∙ r .done ∙ ap (map low32) (take-all i (drop firstAddress row) (omega (arith, behind)))
-
--- ---- the loop that writes them: the first i of `xs` stand in the row
-module _ (row xs : List ℕ) where
-  pub record Writing (i : ℕ) (out : List ℕ) : Type 0 where
-    pub few : i ≤ addressesMax
-    pub size : length out ≡ length row
-    pub done : take (firstAddress + i) out ≡ take firstAddress row ++ take i xs
-
-  pub write-start : Writing 0 row
-  write-start = record { few = omega arith; size = refl; done = sym (append-nil (take firstAddress row)) }
-
-  module _ (wide : length row ≡ linkWidth) (full : length xs ≡ addressesMax) where
-    pub write-turn : {i : ℕ} {out : List ℕ} → i < addressesMax → Writing i out → Writing (i + 1) (set out (firstAddress + i) (getD xs i 0))
-    write-turn {i} {out} h w =
-        let a = getD xs i 0 in
-        let e : firstAddress + (i + 1) ≡ suc (firstAddress + i) = omega arith in
-        record {
-          few = omega arith;
-          size = length-set out (firstAddress + i) a ∙ w .size;
-          done =
-              ap (λ (k : ℕ). take k (set out (firstAddress + i) a)) e
-              ∙ take-suc-set out (firstAddress + i) a (omega (arith, w .size))
-              ∙ ap (λ (t : List ℕ). t ++ (a ∷ [])) (w .done)
-              ∙ append-assoc (take firstAddress row) (take i xs) (a ∷ [])
-              ∙ ap (λ (t : List ℕ). take firstAddress row ++ t) (sym (take-suc xs i 0 (omega arith)) ∙ ap (λ (k : ℕ). take k xs) (sym (add-one i)));
-        }
-
-    pub write-over : {i : ℕ} {out : List ℕ} → addressesMax ≤ i → map low32 xs ≡ xs → Writing i out
-        → (take firstAddress out ≡ take firstAddress row) × (drop firstAddress out ≡ xs) × (map low32 xs ≡ xs)
-    write-over {i} {out} h n w =
-        let f = length-take-le firstAddress row (omega arith) in
-        let e : out ≡ take firstAddress row ++ xs =
-        sym (take-all (firstAddress + i) out (omega (arith, w .size))) ∙ w .done ∙ ap (λ (t : List ℕ). take firstAddress row ++ t) (take-all i xs (omega arith))
-        in
-        (ap (take firstAddress) e ∙ take-at (take firstAddress row) xs firstAddress f, ap (drop firstAddress) e ∙ drop-at (take firstAddress row) xs firstAddress f, n)
+pub addresses-are : (row : List ℕ) → length row ≡ linkWidth → take addressesMax (map low32 (drop firstAddress row)) ≡ map low32 (drop firstAddress row)
+addresses-are row wide =
+    take-all addressesMax (map low32 (drop firstAddress row)) (omega (arith, length-map (drop firstAddress row) low32, length-drop firstAddress row))
 
 -- ---- a row as a link
 all-addresses : (r : List ℕ) → length r ≡ linkWidth → take addressesMax (drop firstAddress r) ≡ drop firstAddress r

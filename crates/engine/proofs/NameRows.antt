@@ -1,13 +1,13 @@
 -- Laws of the table of names: a row of the two arrays read, changed, put in and taken out.
 use mathlib.Core.Path.{_≡_, refl, sym, _∙_, ap, subst}
-use mathlib.Core.List.{List, [], _∷_, _++_, append-assoc, append-nil}
+use mathlib.Core.List.{List, [], _∷_, _++_, append-assoc}
 use Prim.Native.Nat.{ℕ, suc, min, _+_, _*_, _-_, _≤_, _<_}
 use native.Mathlib.Nat.{add-zero, mod-eq-of-lt, min-eq-left, min-eq-right}
 use native.Mathlib.Decide.{decLe}
 use native.Mathlib.Numerals.{add-one}
 use native.Mathlib.Omega.{arith}
-use lib.ListN.{length, take, drop, set, getD, length-take, length-drop, length-set, drop-of-length-le}
-use lib.Seq.{drop-cons, take-add, take-suc, take-suc-set, take-take, take-all, take-at, drop-at, drop-drop, length-take-le, getD-take, getD-drop, getD-set-same, getD-set-other}
+use lib.ListN.{length, take, drop, set, getD, length-take, length-drop, drop-of-length-le}
+use lib.Seq.{drop-cons, take-add, take-take, take-all, take-at, drop-at, drop-drop, length-take-le, getD-take, getD-drop, getD-set-same, getD-set-other}
 use Rattle.text.specs.Put.{overwritten, Put}
 use Rattle.message.specs.Build.{typeMax, nameMax}
 use Rattle.engine.specs.Sizes.{advertisementsMax, locationMax}
@@ -31,12 +31,7 @@ pub names-length : (head ns ts : List ℕ) → length (namesIn head ns ts) ≡ n
 unfolding namesIn
 names-length head ns ts = rows.rows-length numbersWidth textsWidth entryIn (nameCount head) ns ts
 
--- the first n rows, n being the count, are the table
-pub rows-held : (head ns ts : List ℕ) {n : ℕ} → n ≡ nameCount head → entries n ns ts ≡ namesIn head ns ts
-unfolding namesIn
-rows-held head ns ts e = ap (λ (k : ℕ). entries k ns ts) e
-
--- what holds of those rows before and after holds of the table
+-- what holds of the first n rows before and after, n being the count, holds of the table
 pub as-held : (head ns ns′ ts ts′ : List ℕ) {n : ℕ} (P : List Advertisement → List Advertisement → Type 0) → n ≡ nameCount head
     → P (entries n ns ts) (entries n ns′ ts′) → P (namesIn head ns ts) (namesIn head ns′ ts′)
 unfolding namesIn
@@ -211,72 +206,15 @@ new-texts q a b c n k l eq ea eb ec hn hk hl x y z =
       location = take-take (length l) locationMax (drop locationPlace c) hl ∙ put-there (omega arith) z;
     }
 
--- ---- a type's field, byte by byte: the first i bytes from a place on are read
-module _ (ts : List ℕ) (place : ℕ) where
-  pub record FieldRead (i : ℕ) (out : List ℕ) : Type 0 where
-    pub few : i ≤ typeMax
-    pub size : length out ≡ typeMax
-    pub done : take i out ≡ take i (drop place ts)
+-- ---- a type's field, whose bytes are copied one by one
+pub field-byte : (ts : List ℕ) (place i : ℕ) → getD ts (place + i) 0 ≡ getD (drop place ts) i 0
+field-byte ts place i = sym (getD-drop place ts i 0)
 
-  pub field-turn : {i : ℕ} {out : List ℕ} → place + typeMax ≤ length ts → i < typeMax → FieldRead i out → FieldRead (i + 1) (set out i (getD ts (place + i) 0))
-  field-turn {i} {out} fits h r =
-      let x = getD ts (place + i) 0 in
-      let d = drop place ts in
-      record {
-        few = omega arith;
-        size = length-set out i x ∙ r .size;
-        done =
-            ap (λ (k : ℕ). take k (set out i x)) (add-one i)
-            ∙ take-suc-set out i x (omega arith)
-            ∙ (λ j. r .done j ++ (sym (getD-drop place ts i 0) j ∷ []))
-            ∙ sym (take-suc d i 0 (omega (arith, length-drop place ts)))
-            ∙ ap (λ (k : ℕ). take k d) (sym (add-one i));
-      }
+pub field-enough : (ts : List ℕ) (place : ℕ) → place + typeMax ≤ length ts → typeMax ≤ length (drop place ts)
+field-enough ts place h = omega (arith, length-drop place ts)
 
-  pub field-over : {i : ℕ} {out : List ℕ} → typeMax ≤ i → FieldRead i out → out ≡ take typeMax (drop place ts)
-  field-over {i} {out} h r =
-      let e : i ≡ typeMax = omega arith in
-      sym (take-all i out (omega arith)) ∙ r .done ∙ ap (λ (k : ℕ). take k (drop place ts)) e
-
--- the first i bytes of an answer type are written into its place in the texts of a row
-module _ (q xs : List ℕ) where
-  pub record FieldWritten (i : ℕ) (out : List ℕ) : Type 0 where
-    pub few : i ≤ typeMax
-    pub size : length out ≡ length q
-    pub done : take (answerPlace + i) out ≡ take answerPlace q ++ take i xs
-
-  pub answer-start : FieldWritten 0 q
-  answer-start = record { few = omega arith; size = refl; done = sym (append-nil (take answerPlace q)) }
-
-  module _ (wide : length q ≡ textsWidth) (full : length xs ≡ typeMax) where
-    pub answer-turn : {i : ℕ} {out : List ℕ} → i < typeMax → FieldWritten i out → FieldWritten (i + 1) (set out (answerPlace + i) (getD xs i 0))
-    answer-turn {i} {out} h w =
-        let x = getD xs i 0 in
-        let e : answerPlace + (i + 1) ≡ suc (answerPlace + i) = omega arith in
-        record {
-          few = omega arith;
-          size = length-set out (answerPlace + i) x ∙ w .size;
-          done =
-              ap (λ (k : ℕ). take k (set out (answerPlace + i) x)) e
-              ∙ take-suc-set out (answerPlace + i) x (omega arith)
-              ∙ ap (λ (t : List ℕ). t ++ (x ∷ [])) (w .done)
-              ∙ append-assoc (take answerPlace q) (take i xs) (x ∷ [])
-              ∙ ap (λ (t : List ℕ). take answerPlace q ++ t) (sym (take-suc xs i 0 (omega arith)) ∙ ap (λ (k : ℕ). take k xs) (sym (add-one i)));
-        }
-
-    pub answer-over : {i : ℕ} {out : List ℕ} → typeMax ≤ i → FieldWritten i out → Answered xs q out
-    answer-over {i} {out} h w =
-        let f = length-take-le answerPlace q (omega arith) in
-        let e : out ≡ take answerPlace q ++ xs =
-        sym (take-all (answerPlace + i) out (omega arith)) ∙ w .done ∙ ap (λ (t : List ℕ). take answerPlace q ++ t) (take-all i xs (omega arith))
-        in
-        record {
-          front = ap (take answerPlace) e ∙ take-at (take answerPlace q) xs answerPlace f;
-          answer =
-              ap (λ (t : List ℕ). take typeMax (drop answerPlace t)) e
-              ∙ ap (take typeMax) (drop-at (take answerPlace q) xs answerPlace f)
-              ∙ take-all typeMax xs (omega arith);
-        }
+pub answer-placed : {q q′ xs : List ℕ} → length xs ≡ typeMax → (take answerPlace q′ ≡ take answerPlace q) × (drop answerPlace q′ ≡ xs) → Answered xs q q′
+answer-placed {xs = xs} full (front, back) = record { front = front; answer = ap (take typeMax) back ∙ take-all typeMax xs (omega arith) }
 
 -- ---- a row replaced, as a part `[w * i..w * i + w]` of its array that was lent comes back
 part-is : (a w : ℕ) (l : List ℕ) → take ((a + w) - a) (drop a l) ≡ take w (drop a l)

@@ -1,14 +1,14 @@
 -- Laws of `Sends`: runs of records written one behind the other are one run, and what is written from record 0 on is `written`.
 use mathlib.Core.Path.{_≡_, sym, _∙_, ap, subst}
 use mathlib.Core.List.{List, [], _++_}
-use Prim.Native.Nat.{ℕ, _+_, _-_, _*_, _≤_}
+use Prim.Native.Nat.{ℕ, _+_, _*_, _≤_}
 use native.Mathlib.Omega.{arith}
 use native.Mathlib.Nat.{add-zero, zero-add}
 use lib.ListN.{length, take, drop, length-append, length-drop}
 use lib.Seq.{length-take-le}
 use Rattle.text.specs.Put.{Put, overwritten}
 use Rattle.text.proofs.Writing as put
-use Rattle.engine.specs.Sizes.{recordSize, recordsMax, outboxSize}
+use Rattle.engine.specs.Sizes.{recordSize}
 use Rattle.engine.specs.Records.{Record, flat}
 use Rattle.engine.specs.Layout.{recordBytes, layout, written, Room, Sends, Sent}
 use Rattle.engine.proofs.Flat.{flat-append}
@@ -63,6 +63,9 @@ pub room-next : {b b′ : List ℕ} {k k′ : ℕ} {rs : List Record} (ss : List
 room-next {rs = rs} ss room s = omega (arith, length-append rs ss, size s, s .number)
 
 -- the same records by another name
+pub room-as : (b : List ℕ) (k : ℕ) {rs ss : List Record} → rs ≡ ss → Room b k rs → Room b k ss
+room-as b k e h = omega (arith, ap length e)
+
 pub of : {b b′ : List ℕ} {k k′ : ℕ} {rs ss : List Record} → rs ≡ ss → Sends b k rs b′ k′ → Sends b k ss b′ k′
 of {b} {b′} {k} {k′} e s = subst (λ (x : List Record). Sends b k x b′ k′) e s
 
@@ -75,7 +78,3 @@ whole {b} {b′} {k′} {rs} s =
 
 pub sent : {b b′ : List ℕ} {n : ℕ} {rs : List Record} → Sends b 0 rs b′ n → Sent rs b b′ n
 sent {rs = rs} s = record { number = s .number ∙ zero-add (length rs); bytes = whole s }
-
--- the outbox that a host lends has room for the records of any call
-pub room-all : (b : List ℕ) (rs : List Record) → outboxSize ≤ length b → length rs ≤ recordsMax → Room b 0 rs
-room-all b rs h g = omega arith

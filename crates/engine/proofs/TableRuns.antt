@@ -1,25 +1,22 @@
--- Laws of loops that send the rows of a table, and room for the records of a call.
+-- Laws of loops that send the rows of a table.
 use mathlib.Core.Path.{_≡_, sym, _∙_, ap}
 use mathlib.Core.Bool.{Bool, true, false, cond}
 use mathlib.Core.List.{List, [], _∷_, map}
-use Prim.Native.Nat.{ℕ, _+_, _*_, _≤_, _<_}
-use native.Mathlib.Nat.{mul-le-mul, le-trans}
+use Prim.Native.Nat.{ℕ, _+_, _≤_, _<_}
 use native.Mathlib.Omega.{arith}
-use lib.ListN.{length, take, getD, length-append}
+use lib.ListN.{length, take, getD}
 use lib.Seq.{take-all}
-use Rattle.engine.specs.Sizes.{advertisementsMax, subscriptionsMax, addressesMax, outboxSize, sourcesMax}
 use Rattle.engine.specs.Held.{Text, Advertisement}
-use Rattle.engine.specs.Records.{Record, SearchFrom, flat, searchOn, notify, notifyOn, refreshOn, allFrom, isDue, replyRecords, dueRecords, timeoutOn}
+use Rattle.engine.specs.Records.{Record, SearchFrom, flat, searchOn, notify, notifyOn, isDue, replyRecords, dueRecords}
 use Rattle.engine.specs.Layout.{Room, Sends}
-use Rattle.engine.specs.Arrays.{searchWidth, searchIn, searchAt, searchCount, searchesIn, namesIn}
+use Rattle.engine.specs.Arrays.{searchWidth, searchIn, searchAt, searchCount, searchesIn}
 use Rattle.engine.specs.declared.advertisement.ResponseNeeded.{ResponseNeeded}
-use Rattle.engine.proofs.Flat.{flat-most, flat-one}
+use Rattle.engine.proofs.Flat.{flat-one}
 use Rattle.engine.proofs.Sending as sending
 use Rattle.engine.proofs.Runs as runs
 use Rattle.engine.proofs.Runs.{Run}
 use Rattle.engine.proofs.Counting as counting
 use Rattle.engine.proofs.TableRows.{lines-length, lines-at}
-use Rattle.engine.proofs.NameRows.{names-length}
 
 -- ---- a loop over all rows of a table
 all-rows : {A : Type 0} (f : A → List Record) (l : List A) (m : ℕ) → length l ≡ m → flat f (take m l) ≡ flat f l
@@ -64,57 +61,3 @@ module _ (time : ℕ) (up : List ℕ) (a : Advertisement) {n : ResponseNeeded} (
   pub due-later : isDue time n ≡ false → [] ≡ dueRecords time up a
   unfolding dueRecords
   due-later d = ap (λ (w : Bool). cond w (replyRecords up a (a .needed)) []) (sym (ap (isDue time) (sym e) ∙ d))
-
--- ---- how many records each run over the tables has
-module _ (ts : List Text) (as′ : List Advertisement) (few : length ts ≤ subscriptionsMax) (some : length as′ ≤ advertisementsMax) where
-  pub all-fits : (source : ℕ) → length (allFrom ts as′ source) ≤ subscriptionsMax + advertisementsMax
-  all-fits source = omega (arith, counting.all-count ts as′ source, counting.searches-most ts)
-
-  pub turn-fits : (addresses : List ℕ) → length addresses ≤ addressesMax → length (flat (allFrom ts as′) addresses) ≤ (subscriptionsMax + advertisementsMax) * addressesMax
-  turn-fits addresses h = omega (arith, flat-most (allFrom ts as′) (subscriptionsMax + advertisementsMax) all-fits addresses)
-
-  module _ (up : List ℕ) (addresses : length up ≤ sourcesMax) where
-    pub refresh-fits : length (refreshOn up ts as′) ≤ sourcesMax * advertisementsMax + sourcesMax * subscriptionsMax
-    refresh-fits =
-        omega (arith, counting.refresh-count up ts as′, mul-le-mul addresses some, mul-le-mul addresses (le-trans (counting.searches-most ts) few))
-
-    pub timeout-fits : (due : Bool) (time : ℕ) → length (timeoutOn up due time ts as′) ≤ sourcesMax * advertisementsMax + sourcesMax * subscriptionsMax + sourcesMax * advertisementsMax
-    timeout-fits due time =
-        omega (
-          arith,
-          length-append (cond due (refreshOn up ts as′) []) (flat (dueRecords time up) as′),
-          counting.cond-most due (refreshOn up ts as′) (sourcesMax * advertisementsMax + sourcesMax * subscriptionsMax) refresh-fits,
-          flat-most (dueRecords time up) sourcesMax (λ a. counting.due-most sourcesMax time up a (omega arith) addresses) as′,
-        )
-
--- ---- the outbox that a host lends has room for the records of each call
-module _ (b : List ℕ) (lent : outboxSize ≤ length b) where
-  pub announced-room : {A : Type 0} (l : List A) (n : ℕ) (f : A → Record) → length l ≡ sourcesMax → Room b 0 (map f (take n l))
-  announced-room l n f e = sending.room-all b (map f (take n l)) lent (omega (arith, counting.mapped-most f l n e))
-
-  module _ (head ss ns ts : List ℕ) where
-    names-most : length (namesIn head ns ts) ≤ advertisementsMax
-    names-most = omega (arith, names-length head ns ts)
-
-    searches-most : length (searchesIn head ss) ≤ subscriptionsMax
-    searches-most = omega (arith, searches-length head ss)
-
-    pub all-room : (source : ℕ) → Room b 0 (allFrom (searchesIn head ss) (namesIn head ns ts) source)
-    all-room source =
-        sending.room-all b (allFrom (searchesIn head ss) (namesIn head ns ts) source) lent
-        (omega (arith, all-fits (searchesIn head ss) (namesIn head ns ts) searches-most names-most source))
-
-    pub turn-room : (addresses : List ℕ) (n : ℕ) → length addresses ≡ addressesMax → Room b 0 (flat (allFrom (searchesIn head ss) (namesIn head ns ts)) (take n addresses))
-    turn-room addresses n e =
-        sending.room-all b (flat (allFrom (searchesIn head ss) (namesIn head ns ts)) (take n addresses)) lent
-        (omega (arith, turn-fits (searchesIn head ss) (namesIn head ns ts) searches-most names-most (take n addresses) (counting.taken-most addresses n e)))
-
-    pub refresh-room : (up : List ℕ) (n : ℕ) → length up ≡ sourcesMax → Room b 0 (refreshOn (take n up) (searchesIn head ss) (namesIn head ns ts))
-    refresh-room up n e =
-        sending.room-all b (refreshOn (take n up) (searchesIn head ss) (namesIn head ns ts)) lent
-        (omega (arith, refresh-fits (searchesIn head ss) (namesIn head ns ts) searches-most names-most (take n up) (counting.taken-most up n e)))
-
-    pub timeout-room : (up : List ℕ) (n : ℕ) → length up ≡ sourcesMax → (due : Bool) (time : ℕ) → Room b 0 (timeoutOn (take n up) due time (searchesIn head ss) (namesIn head ns ts))
-    timeout-room up n e due time =
-        sending.room-all b (timeoutOn (take n up) due time (searchesIn head ss) (namesIn head ns ts)) lent
-        (omega (arith, timeout-fits (searchesIn head ss) (namesIn head ns ts) searches-most names-most (take n up) (counting.taken-most up n e) due time))

@@ -33,6 +33,7 @@ use crate::sizes::LINK_COUNT;
 use crate::sizes::Links;
 use crate::sizes::NAME_COUNT;
 use crate::sizes::Numbers;
+use crate::sizes::OUTBOX_SIZE;
 use crate::sizes::SEARCH_COUNT;
 use crate::sizes::Searches;
 use crate::sizes::TIME_MAX;
@@ -52,13 +53,13 @@ ghost use lib.ListN.{length};
 ghost use Rattle.message.specs.Parse.{parsed, reads};
 ghost use Rattle.message.specs.Build.{typeMax, nameMax};
 ghost use Rattle.message.specs.declared.Message.the-variants.{Search};
-ghost use Rattle.engine.specs.Sizes.{advertisementsMax, locationMax, outboxSize, timeMax};
+ghost use Rattle.engine.specs.Sizes.{advertisementsMax, locationMax, timeMax};
 ghost use Rattle.engine.specs.Table.{known, enter, leave};
 ghost use Rattle.engine.specs.Spot.{Spotted};
 ghost use Rattle.engine.specs.Held.{Text, advertised};
 ghost use Rattle.engine.specs.Links.{upAddresses};
 ghost use Rattle.engine.specs.Records.{byebyeOn};
-ghost use Rattle.engine.specs.Layout.{Sent};
+ghost use Rattle.engine.specs.Layout.{Room, Sent};
 ghost use Rattle.engine.specs.Replies.{waits, newcomer};
 ghost use Rattle.engine.specs.Reading.{isNotice};
 ghost use Rattle.engine.specs.Calls.{NewLink, DeletedLink, NewAddress, DeletedAddress, Subscribe, Advertise, Deadvertise, Refresh, Datagram, Timeout, ResetTimer};
@@ -67,6 +68,7 @@ ghost use Rattle.engine.specs.Outcomes.{counted, notifiedBy};
 ghost use Rattle.engine.specs.Arrays.{headPlaces, numbersSize, linksIn, entryAt, replyAt, nameCount, namesIn, LinkArrays, SearchArrays, NameArrays, engine, held};
 ghost use Rattle.engine.specs.Changes.{NamesAfter};
 ghost use Rattle.engine.specs.Promises.{answered, Answers, Begins};
+ghost use Rattle.engine.specs.declared.advertisement.Endpoint.{Endpoint};
 
 // The answer of an accepted call that leaves these arrays.
 fn accepted(head: &[u64], numbers: &[u64], records: usize, t: Outcome) -> Answer
@@ -156,7 +158,7 @@ pub fn refresh(
 ) -> Answer
     ensures { λ r. ⌜ Answers (engine (now (head .entry)) (now (links .entry)) (now (searches .entry)) (now (numbers .entry)) (now (texts .entry))) (Refresh (length (now (outbox .entry)))) (now (outbox .entry)) (now (outbox .exit)) (answered (engine (now (head .entry)) (now (links .entry)) (now (searches .entry)) (now (numbers .entry)) (now (texts .entry))) r) ⌝ }
 {
-    let number = refusals::of_room(outbox.len());
+    let number = refusals::of_room(outbox.len() < OUTBOX_SIZE);
     if number != 0 {
         return refused(head, numbers, number);
     }
@@ -179,7 +181,7 @@ pub fn subscribe(
     ensures { λ r. ⌜ ((texts : List ℕ) → Answers (engine (now (head .entry)) (now (links .entry)) (now (searches .entry)) (now (numbers .entry)) texts) (Subscribe (now (service .entry)) (length (now (outbox .entry)))) (now (outbox .entry)) (now (outbox .exit)) (answered (engine (now (head .exit)) (now (links .entry)) (now (searches .exit)) (now (numbers .entry)) texts) r)) ⌝ }
 {
     let n = subscription::count_of(head);
-    let number = refusals::of_subscribe(n, outbox.len(), service);
+    let number = refusals::of_subscribe(n, outbox.len() < OUTBOX_SIZE, service);
     if number != 0 {
         return refused(head, numbers, number);
     }
@@ -247,14 +249,10 @@ pub fn new_link(
     ensures { λ r. ⌜ Answers (engine (now (head .entry)) (now (links .entry)) (now (searches .entry)) (now (numbers .entry)) (now (texts .entry))) (NewLink index flags outcome (length (now (outbox .entry)))) (now (outbox .entry)) (now (outbox .exit)) (answered (engine (now (head .exit)) (now (links .exit)) (now (searches .entry)) (now (numbers .entry)) (now (texts .entry))) r) ⌝ }
 {
     let held = links::lookup(head, links, index);
-    let number = refusals::of_new_link(
-        Flags(flags).is_multicast(),
-        held.known,
-        links::count_of(head),
-        index,
-        outcome,
-        outbox.len(),
-    );
+    let multicast = Flags(flags).is_multicast();
+    let count = links::count_of(head);
+    let short = outbox.len() < OUTBOX_SIZE;
+    let number = refusals::of_new_link(multicast, held.known, count, index, outcome, short);
     if number != 0 {
         return refused(head, numbers, number);
     }
@@ -293,7 +291,8 @@ pub fn new_address(
     let link = held.link;
     let storing = news::is_stored(held, address);
     let count = address::count_of(link);
-    let number = refusals::of_new_address(storing, count, index, address, outbox.len());
+    let short = outbox.len() < OUTBOX_SIZE;
+    let number = refusals::of_new_address(storing, count, index, address, short);
     if number != 0 {
         return refused(head, numbers, number);
     }
@@ -362,7 +361,8 @@ pub fn advertise(
 {
     let spot = names::spot_of(head, numbers, texts, name);
     let count = names::count_of(head);
-    let number = refusals::of_advertise(spot.known, count, outbox.len(), name, service, location);
+    let short = outbox.len() < OUTBOX_SIZE;
+    let number = refusals::of_advertise(spot.known, count, short, name, service, location);
     if number != 0 {
         return refused(head, numbers, number);
     }
@@ -384,7 +384,7 @@ fn byebye_if(
     texts: &[u8],
     spot: Spot,
 ) -> usize
-    requires { ⌜ LinkArrays (now head) (now links) × NameArrays (now numbers) (now texts) × (spot .known ≡ true → spot .at < advertisementsMax) × (outboxSize ≤ length (now outbox)) ⌝ }
+    requires { ⌜ LinkArrays (now head) (now links) × NameArrays (now numbers) (now texts) × (spot .known ≡ true → spot .at < advertisementsMax) × Room (now outbox) 0 (cond (spot .known) (byebyeOn (upAddresses (linksIn (now head) (now links))) (entryAt (spot .at) (now numbers) (now texts))) []) ⌝ }
     ensures { λ r. ⌜ Sent (cond (spot .known) (byebyeOn (upAddresses (linksIn (now (head .entry)) (now (links .entry)))) (entryAt (spot .at) (now (numbers .entry)) (now (texts .entry)))) []) (now (outbox .entry)) (now (outbox .exit)) r ⌝ }
 {
     let at = spot.at;
@@ -421,7 +421,7 @@ pub fn deadvertise(
 ) -> Answer
     ensures { λ r. ⌜ ((searches : List ℕ) → Answers (engine (now (head .entry)) (now (links .entry)) searches (now (numbers .entry)) (now (texts .entry))) (Deadvertise (now (name .entry)) (length (now (outbox .entry)))) (now (outbox .entry)) (now (outbox .exit)) (answered (engine (now (head .exit)) (now (links .entry)) searches (now (numbers .exit)) (now (texts .exit))) r)) ⌝ }
 {
-    let number = refusals::of_room(outbox.len());
+    let number = refusals::of_room(outbox.len() < OUTBOX_SIZE);
     if number != 0 {
         return refused(head, numbers, number);
     }
@@ -446,7 +446,7 @@ pub fn handle_timeout(
 ) -> Answer
     ensures { λ r. ⌜ Answers (engine (now (head .entry)) (now (links .entry)) (now (searches .entry)) (now (numbers .entry)) (now (texts .entry))) (Timeout time (length (now (outbox .entry)))) (now (outbox .entry)) (now (outbox .exit)) (answered (engine (now (head .exit)) (now (links .entry)) (now (searches .entry)) (now (numbers .exit)) (now (texts .entry))) r) ⌝ }
 {
-    let number = refusals::of_timeout(time, outbox.len());
+    let number = refusals::of_timeout(time, outbox.len() < OUTBOX_SIZE);
     if number != 0 {
         return refused(head, numbers, number);
     }
@@ -513,14 +513,11 @@ fn on_notice(
     head: &[u64],
     searches: &[u8],
     numbers: &[u64],
-    time: u64,
-    sender: Endpoint,
-    receiver: u32,
     datagram: &[u8],
     said: Message,
 ) -> Answer
-    requires { ⌜ SearchArrays (now head) (now searches) × (length (now numbers) ≡ numbersSize) × (time ≤ timeMax) × (parsed (now datagram) ≡ reads said) × (isNotice said ≡ true) ⌝ }
-    ensures { λ r. ⌜ ((links texts : List ℕ) → Answers (engine (now (head .entry)) links (now (searches .entry)) (now (numbers .entry)) texts) (Datagram time sender receiver (now (datagram .entry))) [] [] (answered (engine (now (head .entry)) links (now (searches .entry)) (now (numbers .entry)) texts) r)) ⌝ }
+    requires { ⌜ SearchArrays (now head) (now searches) × (length (now numbers) ≡ numbersSize) × (parsed (now datagram) ≡ reads said) × (isNotice said ≡ true) ⌝ }
+    ensures { λ r. ⌜ ((links texts : List ℕ) (time receiver : ℕ) (sender : Endpoint) → time ≤ timeMax → Answers (engine (now (head .entry)) links (now (searches .entry)) (now (numbers .entry)) texts) (Datagram time sender receiver (now (datagram .entry))) [] [] (answered (engine (now (head .entry)) links (now (searches .entry)) (now (numbers .entry)) texts) r)) ⌝ }
 {
     let told = subscription::told_of(head, searches, message::field(datagram, type_of(said)));
     accepted(head, numbers, 0, notifying(told))
@@ -562,15 +559,6 @@ pub fn on_data(
             search_target,
             maximum_wait_sec,
         ),
-        _ => on_notice(
-            head,
-            searches,
-            numbers,
-            time,
-            sender,
-            receiver,
-            datagram,
-            said,
-        ),
+        _ => on_notice(head, searches, numbers, datagram, said),
     }
 }

@@ -26,9 +26,10 @@ ghost use mathlib.Core.Bool.{true, cond};
 ghost use mathlib.Core.List.{List};
 ghost use Prim.Native.Nat.{ℕ, _<_, _≤_};
 ghost use lib.ListN.{length, take};
+ghost use Rattle.text.specs.Bytes.{equal};
 ghost use Rattle.message.specs.Build.{typeMax};
 ghost use Rattle.engine.specs.Sizes.{advertisementsMax, timeMax};
-ghost use Rattle.engine.specs.Target.{targetMatch};
+ghost use Rattle.engine.specs.Target.{ssdpAll, targetMatch};
 ghost use Rattle.engine.specs.Wanted.{wantedOf};
 ghost use Rattle.engine.specs.Replies.{asked, matchedBy, joinedBy, served, aloneAt, groupAt, waiting, soonest};
 ghost use Rattle.engine.specs.Passes.{askedBy};
@@ -141,16 +142,16 @@ fn ask_one(
     i: usize,
     target: &[u8],
     wanted: Wanted,
-    all: bool,
     opened: ActiveAdvertisement,
     due: u64,
     sender: Endpoint,
     receiver: u32,
 ) -> Asked
-    requires { ⌜ (i < advertisementsMax) × NameArrays (now numbers) (now texts) × (wanted ≡ wantedOf (now target)) × Opening (now target) due sender receiver all opened ⌝ }
+    requires { ⌜ (i < advertisementsMax) × NameArrays (now numbers) (now texts) × (wanted ≡ wantedOf (now target)) × Opening (now target) due sender receiver (equal (now target) ssdpAll) opened ⌝ }
     ensures { λ r. ⌜ ((n : ℕ) → i < n → n ≤ advertisementsMax → PassOne (asked due (askedBy (now (target .entry)) sender receiver)) (matchedBy (askedBy (now (target .entry)) sender receiver)) (joinedBy (askedBy (now (target .entry)) sender receiver)) blank i (entries n (now (numbers .entry)) (now (texts .entry))) (entries n (now (numbers .exit)) (now (texts .exit))) (r .matched) (r .joined)) ⌝ }
 {
     if is_asked(numbers, texts, i, target, wanted) {
+        let all = wants_all(wanted);
         return ask_for(numbers, texts, i, all, opened, due, sender, receiver);
     }
     Asked {
@@ -174,7 +175,6 @@ fn ask_all(
 {
     let n = count_of(head);
     let wanted = wanted_of(target);
-    let all = wants_all(wanted);
     let opened = opened_by(target, due, sender, receiver);
     let mut matched = 0;
     let mut joined = 0;
@@ -186,7 +186,6 @@ fn ask_all(
             i,
             target,
             wanted,
-            all,
             opened,
             due,
             sender,

@@ -1,11 +1,10 @@
 // Who can be turned away (document 01): the refusal number of a call from its arguments and from what it looks at of the engine, 0 for an accepted one.
-// The order is that of specs/Refusals.antt.
+// The order is that of specs/Refusals.antt. `short` tells whether the outbox is shorter than the call needs.
 use crate::sizes::ADDRESSES;
 use crate::sizes::LINKS;
 use crate::sizes::LOCATION_SIZE;
 use crate::sizes::NAME_SIZE;
 use crate::sizes::NAMES;
-use crate::sizes::OUTBOX_SIZE;
 use crate::sizes::SUBSCRIPTIONS;
 use crate::sizes::TIME_MAX;
 use crate::sizes::TYPE_SIZE;
@@ -16,8 +15,8 @@ ghost use mathlib.Core.Path.{_≡_};
 ghost use Prim.Native.Nat.{ℕ};
 ghost use mathlib.Core.Bool.{cond};
 ghost use mathlib.Core.List.{List};
+ghost use lib.Dec.{ltb};
 ghost use lib.ListN.{length};
-ghost use Rattle.engine.specs.Sizes.{outboxSize};
 ghost use Rattle.engine.specs.Held.{Text, Context, byIndex};
 ghost use Rattle.engine.specs.Table.{known};
 ghost use Rattle.engine.specs.Flags.{isMulticast};
@@ -59,12 +58,12 @@ fn first(fails: bool, number: u32, rest: u32) -> u32
 pub(crate) fn of_advertise(
     held: bool,
     count: usize,
-    room: usize,
+    short: bool,
     name: &[u8],
     service: &[u8],
     location: &[u8],
 ) -> u32
-    ensures { λ r. ⌜ ((x : Context) (n : Names) → n .holds (now (name .entry)) ≡ held → n .count ≡ count → n .need ≡ outboxSize → r ≡ refusal x n (Advertise (now (name .entry)) (now (service .entry)) (now (location .entry)) room)) ⌝ }
+    ensures { λ r. ⌜ ((x : Context) (n : Names) (room : ℕ) → n .holds (now (name .entry)) ≡ held → n .count ≡ count → ltb room (n .need) ≡ short → r ≡ refusal x n (Advertise (now (name .entry)) (now (service .entry)) (now (location .entry)) room)) ⌝ }
 {
     let full = first((!held) & (NAMES <= count), TABLE_FULL, 0);
     let bad = (!good::is_good(name)) | (!good::is_good(service)) | (!good::is_good(location));
@@ -73,24 +72,24 @@ pub(crate) fn of_advertise(
         | (TYPE_SIZE < service.len())
         | (LOCATION_SIZE < location.len());
     let sized = first(over, TEXT_OVER_SIZE, formed);
-    first(room < OUTBOX_SIZE, OUTBOX_SHORT, sized)
+    first(short, OUTBOX_SHORT, sized)
 }
 
 // `subscribe`, where `count` subscriptions are held.
-pub(crate) fn of_subscribe(count: usize, room: usize, service: &[u8]) -> u32
-    ensures { λ r. ⌜ ((x : Context) (n : Names) → length (x .subscriptions) ≡ count → n .need ≡ outboxSize → r ≡ refusal x n (Subscribe (now (service .entry)) room)) ⌝ }
+pub(crate) fn of_subscribe(count: usize, short: bool, service: &[u8]) -> u32
+    ensures { λ r. ⌜ ((x : Context) (n : Names) (room : ℕ) → length (x .subscriptions) ≡ count → ltb room (n .need) ≡ short → r ≡ refusal x n (Subscribe (now (service .entry)) room)) ⌝ }
 {
     let full = first(SUBSCRIPTIONS <= count, TABLE_FULL, 0);
     let formed = first(!good::is_good(service), TEXT_NOT_GOOD, full);
     let sized = first(TYPE_SIZE < service.len(), TEXT_OVER_SIZE, formed);
-    first(room < OUTBOX_SIZE, OUTBOX_SHORT, sized)
+    first(short, OUTBOX_SHORT, sized)
 }
 
 // `deadvertise` and `refresh`, which look at the outbox alone.
-pub(crate) fn of_room(room: usize) -> u32
-    ensures { λ r. ⌜ ((x : Context) (n : Names) → n .need ≡ outboxSize → (r ≡ refusal x n (Refresh room)) × ((name : Text) → r ≡ refusal x n (Deadvertise name room))) ⌝ }
+pub(crate) fn of_room(short: bool) -> u32
+    ensures { λ r. ⌜ ((x : Context) (n : Names) (room : ℕ) → ltb room (n .need) ≡ short → (r ≡ refusal x n (Refresh room)) × ((name : Text) → r ≡ refusal x n (Deadvertise name room))) ⌝ }
 {
-    first(room < OUTBOX_SIZE, OUTBOX_SHORT, 0)
+    first(short, OUTBOX_SHORT, 0)
 }
 
 // `new` and `reset_refresh_timer`, which look at the time alone.
@@ -101,14 +100,10 @@ pub(crate) fn of_time(time: u64) -> u32
 }
 
 // `handle_timeout`.
-pub(crate) fn of_timeout(time: u64, room: usize) -> u32
-    ensures { λ r. ⌜ ((x : Context) (n : Names) → n .need ≡ outboxSize → r ≡ refusal x n (Timeout time room)) ⌝ }
+pub(crate) fn of_timeout(time: u64, short: bool) -> u32
+    ensures { λ r. ⌜ ((x : Context) (n : Names) (room : ℕ) → ltb room (n .need) ≡ short → r ≡ refusal x n (Timeout time room)) ⌝ }
 {
-    first(
-        TIME_MAX < time,
-        TIME_LATE,
-        first(room < OUTBOX_SIZE, OUTBOX_SHORT, 0),
-    )
+    first(TIME_MAX < time, TIME_LATE, first(short, OUTBOX_SHORT, 0))
 }
 
 // News of a link that is multicast or not, and held or not among `count` links.
@@ -118,18 +113,14 @@ pub(crate) fn of_new_link(
     count: usize,
     index: u32,
     outcome: u32,
-    room: usize,
+    short: bool,
 ) -> u32
-    ensures { λ r. ⌜ ((x : Context) (n : Names) (flags : ℕ) → isMulticast flags ≡ multicast → known byIndex index (x .links) ≡ held → length (x .links) ≡ count → n .need ≡ outboxSize → r ≡ refusal x n (NewLink index flags outcome room)) ⌝ }
+    ensures { λ r. ⌜ ((x : Context) (n : Names) (room : ℕ) (flags : ℕ) → isMulticast flags ≡ multicast → known byIndex index (x .links) ≡ held → length (x .links) ≡ count → ltb room (n .need) ≡ short → r ≡ refusal x n (NewLink index flags outcome room)) ⌝ }
 {
     let fresh = multicast & (!held);
     let joined = first(fresh & (outcome != 0), JOIN_FAILED, 0);
     let full = first(fresh & (LINKS <= count), LINKS_FULL, joined);
-    first(
-        room < OUTBOX_SIZE,
-        OUTBOX_SHORT,
-        first(index == 0, INDEX_ZERO, full),
-    )
+    first(short, OUTBOX_SHORT, first(index == 0, INDEX_ZERO, full))
 }
 
 // The deletion of a link.
@@ -145,9 +136,9 @@ pub(crate) fn of_new_address(
     count: usize,
     index: u32,
     address: &[u8],
-    room: usize,
+    short: bool,
 ) -> u32
-    ensures { λ r. ⌜ ((x : Context) (n : Names) → stores index (now (address .entry)) (x .links) ≡ storing → length (addressesOf (linkAt index (x .links))) ≡ count → n .need ≡ outboxSize → r ≡ refusal x n (NewAddress index (now (address .entry)) room)) ⌝ }
+    ensures { λ r. ⌜ ((x : Context) (n : Names) (room : ℕ) → stores index (now (address .entry)) (x .links) ≡ storing → length (addressesOf (linkAt index (x .links))) ≡ count → ltb room (n .need) ≡ short → r ≡ refusal x n (NewAddress index (now (address .entry)) room)) ⌝ }
 {
     let full = first(storing & (ADDRESSES <= count), LINKS_FULL, 0);
     let formed = first(
@@ -155,11 +146,7 @@ pub(crate) fn of_new_address(
         ADDRESS_LENGTH,
         full,
     );
-    first(
-        room < OUTBOX_SIZE,
-        OUTBOX_SHORT,
-        first(index == 0, INDEX_ZERO, formed),
-    )
+    first(short, OUTBOX_SHORT, first(index == 0, INDEX_ZERO, formed))
 }
 
 // The deletion of an address.

@@ -1,5 +1,5 @@
 // What each call sends, from the outbox's first record on: document 01, 'Outbox'. Each function answers the number of records.
-// The contracts cite specs/Records.antt and, for what is written, `Sent` of specs/Layout.antt. They ask for the outbox that every host lends.
+// The contracts cite specs/Records.antt and, for what is written, `Sent` of specs/Layout.antt. They ask for an outbox with room for that.
 use crate::announce::Announcement;
 use crate::announce::announce_on_all;
 use crate::due::replies_due;
@@ -13,14 +13,14 @@ ghost use mathlib.Core.Bool.{cond};
 ghost use mathlib.Core.List.{[], map};
 ghost use Prim.Native.Nat.{_<_, _≤_};
 ghost use lib.ListN.{length, take};
-ghost use Rattle.engine.specs.Sizes.{advertisementsMax, outboxSize, locationMax};
+ghost use Rattle.engine.specs.Sizes.{advertisementsMax, locationMax};
 ghost use Rattle.engine.specs.Records.{flat, byebyeOn, refreshOn, allFrom, timeoutOn, NotifyFrom, searchOn};
 ghost use Rattle.engine.specs.Layout.{Room, Sends, Sent};
 ghost use Rattle.engine.specs.Arrays.{entryAt, namesIn, searchesIn, NameArrays, SearchArrays};
 
 // `subscribe`: a search from each of the first `n` addresses.
 pub(crate) fn send_search(outbox: &mut [u8], up: [u32; SOURCES], n: usize, service: &[u8]) -> usize
-    requires { ⌜ outboxSize ≤ length (now outbox) ⌝ }
+    requires { ⌜ Room (now outbox) 0 (searchOn (take n up) (now service)) ⌝ }
     ensures { λ r. ⌜ Sent (searchOn (take n up) (now (service .entry))) (now (outbox .entry)) (now (outbox .exit)) r ⌝ }
 {
     announce_on_all(outbox, 0, up, n, Announcement::Search, service, b"", b"")
@@ -35,7 +35,7 @@ pub(crate) fn send_alive(
     name: &[u8],
     location: &[u8],
 ) -> usize
-    requires { ⌜ (outboxSize ≤ length (now outbox)) × (length (now location) ≤ locationMax) ⌝ }
+    requires { ⌜ Room (now outbox) 0 (map (λ source. NotifyFrom source (now service) (now name) (now location)) (take n up)) × (length (now location) ≤ locationMax) ⌝ }
     ensures { λ r. ⌜ Sent (map (λ source. NotifyFrom source (now (service .entry)) (now (name .entry)) (now (location .entry))) (take n up)) (now (outbox .entry)) (now (outbox .exit)) r ⌝ }
 {
     announce_on_all(
@@ -59,7 +59,7 @@ pub(crate) fn send_byebye(
     texts: &[u8],
     i: usize,
 ) -> usize
-    requires { ⌜ (i < advertisementsMax) × NameArrays (now numbers) (now texts) × (outboxSize ≤ length (now outbox)) ⌝ }
+    requires { ⌜ (i < advertisementsMax) × NameArrays (now numbers) (now texts) × Room (now outbox) 0 (byebyeOn (take n up) (entryAt i (now numbers) (now texts))) ⌝ }
     ensures { λ r. ⌜ Sent (byebyeOn (take n up) (entryAt i (now (numbers .entry)) (now (texts .entry)))) (now (outbox .entry)) (now (outbox .exit)) r ⌝ }
 {
     announce_name(outbox, 0, up, n, Announcement::ByeBye, numbers, texts, i)
@@ -75,7 +75,7 @@ pub(crate) fn send_refresh(
     numbers: &[u64],
     texts: &[u8],
 ) -> usize
-    requires { ⌜ SearchArrays (now head) (now searches) × NameArrays (now numbers) (now texts) × (outboxSize ≤ length (now outbox)) ⌝ }
+    requires { ⌜ SearchArrays (now head) (now searches) × NameArrays (now numbers) (now texts) × Room (now outbox) 0 (refreshOn (take n up) (searchesIn (now head) (now searches)) (namesIn (now head) (now numbers) (now texts))) ⌝ }
     ensures { λ r. ⌜ Sent (refreshOn (take n up) (searchesIn (now (head .entry)) (now (searches .entry))) (namesIn (now (head .entry)) (now (numbers .entry)) (now (texts .entry)))) (now (outbox .entry)) (now (outbox .exit)) r ⌝ }
 {
     refresh_on_all(outbox, 0, up, n, head, searches, numbers, texts)
@@ -91,7 +91,7 @@ pub(crate) fn send_if_stored(
     numbers: &[u64],
     texts: &[u8],
 ) -> usize
-    requires { ⌜ SearchArrays (now head) (now searches) × NameArrays (now numbers) (now texts) × (outboxSize ≤ length (now outbox)) ⌝ }
+    requires { ⌜ SearchArrays (now head) (now searches) × NameArrays (now numbers) (now texts) × Room (now outbox) 0 (cond stored (allFrom (searchesIn (now head) (now searches)) (namesIn (now head) (now numbers) (now texts)) address) []) ⌝ }
     ensures { λ r. ⌜ Sent (cond stored (allFrom (searchesIn (now (head .entry)) (now (searches .entry))) (namesIn (now (head .entry)) (now (numbers .entry)) (now (texts .entry))) address) []) (now (outbox .entry)) (now (outbox .exit)) r ⌝ }
 {
     if stored {
@@ -111,7 +111,7 @@ pub(crate) fn send_if_up(
     numbers: &[u64],
     texts: &[u8],
 ) -> usize
-    requires { ⌜ SearchArrays (now head) (now searches) × NameArrays (now numbers) (now texts) × (outboxSize ≤ length (now outbox)) ⌝ }
+    requires { ⌜ SearchArrays (now head) (now searches) × NameArrays (now numbers) (now texts) × Room (now outbox) 0 (cond turns (flat (allFrom (searchesIn (now head) (now searches)) (namesIn (now head) (now numbers) (now texts))) (take n addresses)) []) ⌝ }
     ensures { λ r. ⌜ Sent (cond turns (flat (allFrom (searchesIn (now (head .entry)) (now (searches .entry))) (namesIn (now (head .entry)) (now (numbers .entry)) (now (texts .entry)))) (take n addresses)) []) (now (outbox .entry)) (now (outbox .exit)) r ⌝ }
 {
     if turns {
@@ -131,7 +131,7 @@ fn salvo_if_due(
     numbers: &[u64],
     texts: &[u8],
 ) -> usize
-    requires { ⌜ SearchArrays (now head) (now searches) × NameArrays (now numbers) (now texts) × Room (now outbox) 0 (refreshOn (take n up) (searchesIn (now head) (now searches)) (namesIn (now head) (now numbers) (now texts))) ⌝ }
+    requires { ⌜ SearchArrays (now head) (now searches) × NameArrays (now numbers) (now texts) × Room (now outbox) 0 (cond due (refreshOn (take n up) (searchesIn (now head) (now searches)) (namesIn (now head) (now numbers) (now texts))) []) ⌝ }
     ensures { λ r. ⌜ Sends (now (outbox .entry)) 0 (cond due (refreshOn (take n up) (searchesIn (now (head .entry)) (now (searches .entry))) (namesIn (now (head .entry)) (now (numbers .entry)) (now (texts .entry)))) []) (now (outbox .exit)) r ⌝ }
 {
     if due {
@@ -152,7 +152,7 @@ pub(crate) fn send_timeout(
     numbers: &[u64],
     texts: &[u8],
 ) -> usize
-    requires { ⌜ SearchArrays (now head) (now searches) × NameArrays (now numbers) (now texts) × (outboxSize ≤ length (now outbox)) ⌝ }
+    requires { ⌜ SearchArrays (now head) (now searches) × NameArrays (now numbers) (now texts) × Room (now outbox) 0 (timeoutOn (take n up) due time (searchesIn (now head) (now searches)) (namesIn (now head) (now numbers) (now texts))) ⌝ }
     ensures { λ r. ⌜ Sent (timeoutOn (take n up) due time (searchesIn (now (head .entry)) (now (searches .entry))) (namesIn (now (head .entry)) (now (numbers .entry)) (now (texts .entry)))) (now (outbox .entry)) (now (outbox .exit)) r ⌝ }
 {
     let k = salvo_if_due(outbox, up, n, due, head, searches, numbers, texts);

@@ -1,5 +1,7 @@
 // The sizes of the tables (document 01, 'Table sizes') and of the arrays that an owner lends for them, each once; specs/Sizes.antt and specs/Arrays.antt
 // have the same in the definitions, and specs/Arrays.antt says what stands where.
+use message::build::NAME_MAX;
+use message::build::TYPE_MAX;
 
 // The latest time that a call may bear, in milliseconds.
 pub const TIME_MAX: u64 = 9223372036854775807;
@@ -15,10 +17,10 @@ pub const ADDRESSES: usize = 2;
 
 pub const SOURCES: usize = LINKS * ADDRESSES;
 
-// The longest texts, in bytes.
-pub const NAME_SIZE: usize = 128;
+// The longest texts, in bytes; of name and type as in the messages.
+pub const NAME_SIZE: usize = NAME_MAX;
 
-pub const TYPE_SIZE: usize = 80;
+pub const TYPE_SIZE: usize = TYPE_MAX;
 
 pub const LOCATION_SIZE: usize = 120;
 

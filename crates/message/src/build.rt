@@ -10,9 +10,9 @@ ghost use Rattle.text.specs.Put.{Put};
 ghost use Rattle.message.specs.Build.{Builds, buildRefusal, searchTexts, byebyeTexts, locatedTexts, searchText, responseText, notifyText, byebyeText, headerLine, field, crlf, hostText, maxAgeText, notifyLine};
 
 // The largest sizes of the texts that go into a message.
-const TYPE_MAX: usize = 80;
+pub const TYPE_MAX: usize = 80;
 
-const NAME_MAX: usize = 128;
+pub const NAME_MAX: usize = 128;
 
 const LOCATION_MAX: usize = 135;
 
@@ -25,8 +25,8 @@ const NOTIFY_BESIDES: usize = 163;
 
 const BYEBYE_BESIDES: usize = 152;
 
-// Refusal numbers.
-const ACCEPTED: u32 = 0;
+// Refusal numbers, and that of no refusal.
+pub(crate) const ACCEPTED: u32 = 0;
 
 pub const TEXT_OVER_SIZE: u32 = 3;
 

@@ -19,6 +19,7 @@ ghost use Rattle.message.specs.Parse.{fieldAt, aliveOf, byebyeOf, notify
 pub mod build;
 pub mod headers;
 
+use build::ACCEPTED;
 pub use build::Built;
 pub use build::build_byebye;
 pub use build::build_notify;
@@ -28,9 +29,7 @@ pub use build::build_search;
 // MX has 8 bits.
 const MX_MAX: u64 = 255;
 
-// Document 01's numbers for what `parse` answers.
-const ACCEPTED: u32 = 0;
-
+// Document 01's numbers for what `parse` refuses.
 const DATAGRAM_EMPTY: u32 = 7;
 
 const DATAGRAM_INVALID: u32 = 8;

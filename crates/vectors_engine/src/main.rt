@@ -89,6 +89,36 @@ fn datagram(
     )
 }
 
+// The call of a line that brings news of a link or an address.
+fn news(
+    head: &mut Head,
+    links: &mut Links,
+    searches: &Searches,
+    numbers: &Numbers,
+    texts: &Texts,
+    line: &[u8],
+    text: &[u8],
+    outbox: &mut [u8],
+) -> Answer {
+    let index = number32(line, 2);
+    match letter(line) {
+        b'l' => calls::new_link(
+            head,
+            links,
+            searches,
+            numbers,
+            texts,
+            index,
+            number32(line, 3),
+            number32(line, 4),
+            outbox,
+        ),
+        b'd' => calls::deleted_link(head, links, numbers, index, number32(line, 3)),
+        b'a' => calls::new_address(head, links, searches, numbers, texts, index, text, outbox),
+        _ => calls::deleted_address(head, links, numbers, index, text),
+    }
+}
+
 // The call of a line on an engine; `text` is its first text.
 fn called(
     head: &mut Head,
@@ -101,29 +131,6 @@ fn called(
     outbox: &mut [u8],
 ) -> Answer {
     match letter(line) {
-        b'l' => calls::new_link(
-            head,
-            links,
-            searches,
-            numbers,
-            texts,
-            number32(line, 2),
-            number32(line, 3),
-            number32(line, 4),
-            outbox,
-        ),
-        b'd' => calls::deleted_link(head, links, numbers, number32(line, 2), number32(line, 3)),
-        b'a' => calls::new_address(
-            head,
-            links,
-            searches,
-            numbers,
-            texts,
-            number32(line, 2),
-            text,
-            outbox,
-        ),
-        b'x' => calls::deleted_address(head, links, numbers, number32(line, 2), text),
         b's' => calls::subscribe(head, links, searches, numbers, text, outbox),
         b'v' => advertise(head, links, numbers, texts, line, outbox),
         b'w' => calls::deadvertise(head, links, numbers, texts, text, outbox),
@@ -139,7 +146,8 @@ fn called(
             outbox,
         ),
         b'z' => calls::reset_refresh_timer(head, numbers, number(line, 2)),
-        _ => calls::new(head, numbers, number32(line, 2), number(line, 3)),
+        b'n' => calls::new(head, numbers, number32(line, 2), number(line, 3)),
+        _ => news(head, links, searches, numbers, texts, line, text, outbox),
     }
 }
 

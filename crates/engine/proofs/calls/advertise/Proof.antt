@@ -3,6 +3,7 @@ use mathlib.Core.Path.{_∙_, _≡_, ap, refl, sym}
 use mathlib.Core.Bool.{_||_}
 use mathlib.Core.List.{List, [], map}
 use Prim.Native.Nat.{ℕ}
+use Rattle.engine.proofs.Bound.{enough}
 use Rattle.engine.proofs.Accepted.{or-false, passed}
 use Rattle.engine.proofs.NameRows.{names-length}
 use Rattle.engine.specs.Arrays.{headPlaces, held, numbersSize, engine, textsSize}
@@ -12,7 +13,7 @@ use Rattle.engine.specs.Links.{contextAfter}
 use Rattle.engine.specs.Records.{NotifyFrom, records}
 use Rattle.engine.specs.Refusals.{checks, over}
 use Rattle.engine.specs.Replies.{drops, result, results}
-use Rattle.engine.specs.Sizes.{locationMax, outboxSize}
+use Rattle.engine.specs.Sizes.{locationMax}
 use Rattle.message.specs.Build.{nameMax, typeMax}
 use borrow.Author.Needs.{needs}
 use borrow.Author.Tests.{ltb-false}
@@ -43,13 +44,13 @@ returns c searches =
     let at-count-of = at-of-advertise .before in
     let at-spot-of = at-count-of .before .before .before in
     let a = at-spot-of .before .before .before .before .before .before .before .before .before .before .before .args in
-    lending.refused-answers (engine (a .head .now) (a .links .now) searches (a .numbers .now) (a .texts .now)) (Advertise (a .name .now) (a .service .now) (a .location .now) (length (a .outbox .now))) _ _ (at-of-advertise .of-advertise .result) (sym (at-of-advertise .of-advertise .ensures _ _ (sym (at-spot-of .spot-of .ensures .known)) (names-length (a .head .now) (a .numbers .now) (a .texts .now) ∙ sym (at-count-of .count-of .ensures)) refl)) (at-if1 .if1 .taken) (c .refused .ensures _ searches _)
+    lending.refused-answers (engine (a .head .now) (a .links .now) searches (a .numbers .now) (a .texts .now)) (Advertise (a .name .now) (a .service .now) (a .location .now) (length (a .outbox .now))) _ _ (at-of-advertise .of-advertise .result) (sym (at-of-advertise .of-advertise .ensures _ _ _ (sym (at-spot-of .spot-of .ensures .known)) (names-length (a .head .now) (a .numbers .now) (a .texts .now) ∙ sym (at-count-of .count-of .ensures)) refl)) (at-if1 .if1 .taken) (c .refused .ensures _ searches _)
 
 of-up-links-requires : tie.Need-of-up-links-requires
 of-up-links-requires c κs = search needs
 
 send-alive-requires : tie.Need-send-alive-requires
-unfolding checks namesOf held
+unfolding checks namesOf held records
 send-alive-requires c κs =
     let at-if1 = c .before .before .before .before .before .before in
     let at-of-advertise = at-if1 .before in
@@ -58,10 +59,13 @@ send-alive-requires c κs =
     let a = at-spot-of .before .before .before .before .before .before .before .before .before .before .before .args in
     let t = engine (a .head .now) (a .links .now) [] (a .numbers .now) (a .texts .now) in
     let call = Advertise (a .name .now) (a .service .now) (a .location .now) (length (a .outbox .now)) in
-    let p = passed (held t .context) (namesOf (held t) call) call (sym (at-of-advertise .of-advertise .ensures _ _ (sym (at-spot-of .spot-of .ensures .known)) (names-length (a .head .now) (a .numbers .now) (a .texts .now) ∙ sym (at-count-of .count-of .ensures)) refl) ∙ at-if1 .if1 .left) in
+    let p = passed (held t .context) (namesOf (held t) call) call (sym (at-of-advertise .of-advertise .ensures _ _ _ (sym (at-spot-of .spot-of .ensures .known)) (names-length (a .head .now) (a .numbers .now) (a .texts .now) ∙ sym (at-count-of .count-of .ensures)) refl) ∙ at-if1 .if1 .left) in
     let over₂ = or-false (over nameMax (a .name .now) || over typeMax (a .service .now)) (over locationMax (a .location .now)) (p .1 .0) in
-    let over₁ = or-false (over nameMax (a .name .now)) (over typeMax (a .service .now)) (over₂ .0) in
-    (omega (arith, ltb-false (length (a .outbox .now)) outboxSize (p .0)), omega (arith, ltb-false locationMax (length (a .location .now)) (over₂ .1)))
+    let over₁ = or-false (over nameMax (a .name .now)) (over typeMax (a .service .now)) (over₂ .0) in (
+      enough t call (a .outbox .now) (p .0)
+          (ap (λ (l : List ℕ). map (λ source. NotifyFrom source (a .service .now) (a .name .now) (a .location .now)) l) (c .before .before .of-up-links .ensures .held)),
+      omega (arith, ltb-false locationMax (length (a .location .now)) (over₂ .1)),
+    )
 
 dropped-at-requires : tie.Need-dropped-at-requires
 dropped-at-requires c κs =
@@ -80,7 +84,7 @@ enter-requires c κs =
     let a = at-spot-of .before .before .before .before .before .before .before .before .before .before .before .args in
     let t = engine (a .head .now) (a .links .now) [] (a .numbers .now) (a .texts .now) in
     let call = Advertise (a .name .now) (a .service .now) (a .location .now) (length (a .outbox .now)) in
-    let p = passed (held t .context) (namesOf (held t) call) call (sym (at-of-advertise .of-advertise .ensures _ _ (sym (at-spot-of .spot-of .ensures .known)) (names-length (a .head .now) (a .numbers .now) (a .texts .now) ∙ sym (at-count-of .count-of .ensures)) refl) ∙ at-if1 .if1 .left) in
+    let p = passed (held t .context) (namesOf (held t) call) call (sym (at-of-advertise .of-advertise .ensures _ _ _ (sym (at-spot-of .spot-of .ensures .known)) (names-length (a .head .now) (a .numbers .now) (a .texts .now) ∙ sym (at-count-of .count-of .ensures)) refl) ∙ at-if1 .if1 .left) in
     let over₂ = or-false (over nameMax (a .name .now) || over typeMax (a .service .now)) (over locationMax (a .location .now)) (p .1 .0) in
     let over₁ = or-false (over nameMax (a .name .now)) (over typeMax (a .service .now)) (over₂ .0) in
     let numbers : length (a .numbers .now) ≡ numbersSize = omega arith in
@@ -121,7 +125,7 @@ returns-2 c searches =
     let at-spot-of = at-count-of-arg2 .before .before in
     let a = at-spot-of .before .before .before .before .before .before .before .before .before .before .before .args in
     let size : length (a .head .now) ≡ headPlaces = omega (arith, at-count-of-arg2 .count-of-arg2 .given .0) in
-    lending.done-answers (engine (a .head .now) (a .links .now) searches (a .numbers .now) (a .texts .now)) _ (Advertise (a .name .now) (a .service .now) (a .location .now) (length (a .outbox .now))) (at-send-alive .send-alive .result) _ _ (sym (at-of-advertise .of-advertise .ensures _ _ (sym (at-spot-of .spot-of .ensures .known)) (names-length (a .head .now) (a .numbers .now) (a .texts .now) ∙ sym (at-count-of .count-of .ensures)) refl) ∙ at-if1 .if1 .left)
+    lending.done-answers (engine (a .head .now) (a .links .now) searches (a .numbers .now) (a .texts .now)) _ (Advertise (a .name .now) (a .service .now) (a .location .now) (length (a .outbox .now))) (at-send-alive .send-alive .result) _ _ (sym (at-of-advertise .of-advertise .ensures _ _ _ (sym (at-spot-of .spot-of .ensures .known)) (names-length (a .head .now) (a .numbers .now) (a .texts .now) ∙ sym (at-count-of .count-of .ensures)) refl) ∙ at-if1 .if1 .left)
     (lending.names-changed (a .head .now) (a .links .now) searches (a .numbers .now) (a .texts .now) size (at-enter .enter .result) _ (at-set-count .set-count .ensures) (at-enter .enter .ensures))
     (c .before .dropping .ensures .0 ∙ ap drops (at-dropped-at .dropped-at .ensures ∙ lending.dropped-is (a .head .now) (a .numbers .now) (a .texts .now) (a .name .now) (at-spot-of .spot-of .result) (at-spot-of .spot-of .ensures)) ∙ sym (answering.plus-zeros (drops _))) (c .before .dropping .ensures .1)
     (answering.sent-as (at-send-alive .send-alive .ensures) (ap (λ (l : List ℕ). map (λ source. NotifyFrom source (a .service .now) (a .name .now) (a .location .now)) l) (at-of-up-links .of-up-links .ensures .held)))

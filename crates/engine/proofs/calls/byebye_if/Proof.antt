@@ -6,6 +6,7 @@ use Rattle.engine.specs.Arrays.{entryAt}
 use Rattle.engine.specs.Records.{byebyeOn}
 use borrow.Author.Needs.{needs}
 use Rattle.engine.proofs.Answering as answering
+use Rattle.engine.proofs.Sending.{room-as}
 use Rattle.engine.proofs.calls.byebye_if.Statement.{statement}
 use Rattle.engine.proofs.calls.byebye_if.Tie as tie
 
@@ -16,7 +17,14 @@ send-byebye-requires : tie.Need-send-byebye-requires
 send-byebye-requires c κs =
     let at-if1 = c .before .before .before in
     let start = at-if1 .before .before .before .before .before .before in
-    (start .pre .2 (at-if1 .if1 .taken), start .pre .1, start .pre .3)
+    let a = start .args in (
+      start .pre .2 (at-if1 .if1 .taken),
+      start .pre .1,
+      room-as (a .outbox .now) 0
+          (answering.chosen _ (at-if1 .if1 .taken)
+          ∙ ap (λ (l : List ℕ). byebyeOn l (entryAt (a .spot .at) (a .numbers .now) (a .texts .now))) (sym (c .before .before .of-up-links .ensures .held)))
+          (start .pre .3),
+    )
 
 same-length : tie.Need-same-length
 same-length c = search needs

@@ -1,6 +1,7 @@
 -- `calls::deadvertise` meets its contract: refused, or with the byebyes of a held name sent and the name gone.
 use mathlib.Core.Path.{_∙_, _≡_, ap, refl, sym}
 use mathlib.Core.List.{[]}
+use Rattle.engine.proofs.Bound.{enough}
 use Rattle.engine.proofs.Accepted.{passed}
 use Rattle.engine.specs.Arrays.{headPlaces, held, linksIn, numbersSize, engine, textsSize}
 use Rattle.engine.specs.Calls.{Deadvertise, acts}
@@ -9,9 +10,7 @@ use Rattle.engine.specs.Links.{contextAfter, upAddresses}
 use Rattle.engine.specs.Records.{records}
 use Rattle.engine.specs.Refusals.{checks}
 use Rattle.engine.specs.Replies.{drops, result, results}
-use Rattle.engine.specs.Sizes.{outboxSize}
 use borrow.Author.Needs.{needs}
-use borrow.Author.Tests.{ltb-false}
 use lib.ListN.{length}
 use native.Mathlib.Omega.{arith}
 use Rattle.engine.proofs.Answering as answering
@@ -31,13 +30,13 @@ returns c searches =
     let at-if1 = c .before .before .before .before .before in
     let at-of-room = at-if1 .before in
     let a = at-of-room .before .before .before .args in
-    lending.refused-answers (engine (a .head .now) (a .links .now) searches (a .numbers .now) (a .texts .now)) (Deadvertise (a .name .now) (length (a .outbox .now))) _ _ (at-of-room .of-room .result) (sym (at-of-room .of-room .ensures _ _ refl .1 (a .name .now))) (at-if1 .if1 .taken) (c .refused .ensures _ searches _)
+    lending.refused-answers (engine (a .head .now) (a .links .now) searches (a .numbers .now) (a .texts .now)) (Deadvertise (a .name .now) (length (a .outbox .now))) _ _ (at-of-room .of-room .result) (sym (at-of-room .of-room .ensures _ _ _ refl .1 (a .name .now))) (at-if1 .if1 .taken) (c .refused .ensures _ searches _)
 
 spot-of-requires : tie.Need-spot-of-requires
 spot-of-requires c κs = search needs
 
 byebye-if-requires : tie.Need-byebye-if-requires
-unfolding checks namesOf
+unfolding checks namesOf held records
 byebye-if-requires c κs =
     let at-byebye-if-arg4 = c .before .before .before .before in
     let at-byebye-if-arg3 = at-byebye-if-arg4 .before in
@@ -47,12 +46,13 @@ byebye-if-requires c κs =
     let a = at-of-room .before .before .before .args in
     let t = engine (a .head .now) (a .links .now) [] (a .numbers .now) (a .texts .now) in
     let call = Deadvertise (a .name .now) (length (a .outbox .now)) in
-    let p = passed (held t .context) (namesOf (held t) call) call (sym (at-of-room .of-room .ensures _ _ refl .1 (a .name .now)) ∙ at-if1 .if1 .left) in
+    let p = passed (held t .context) (namesOf (held t) call) call (sym (at-of-room .of-room .ensures _ _ _ refl .1 (a .name .now)) ∙ at-if1 .if1 .left) in
     let at = lending.spot-lt (a .head .now) (a .numbers .now) (a .texts .now) (a .name .now) (at-spot-of .spot-of .result) (at-spot-of .spot-of .ensures) in (
       (omega (arith, at-byebye-if-arg3 .byebye-if-arg3 .given .0), omega (arith, at-byebye-if-arg4 .byebye-if-arg4 .given .0)),
       (omega (arith, c .before .before .byebye-if-arg6 .given .0), omega (arith, c .byebye-if-arg8 .given .0)),
       λ k. let b = at k in omega arith,
-      omega (arith, ltb-false (length (a .outbox .now)) outboxSize (p .0)),
+      enough t call (a .outbox .now) (p .0)
+          (lending.byebyes-are (a .head .now) (a .numbers .now) (a .texts .now) (a .name .now) (at-spot-of .spot-of .result) (at-spot-of .spot-of .ensures) (upAddresses (linksIn (a .head .now) (a .links .now)))),
     )
 
 dropped-at-requires : tie.Need-dropped-at-requires
@@ -95,7 +95,7 @@ returns-2 c searches =
     let at-of-room = at-if1 .before in
     let a = at-of-room .before .before .before .args in
     let size : length (a .head .now) ≡ headPlaces = omega (arith, at-spot-of-arg2 .spot-of-arg2 .given .0) in
-    lending.done-answers (engine (a .head .now) (a .links .now) searches (a .numbers .now) (a .texts .now)) _ (Deadvertise (a .name .now) (length (a .outbox .now))) (at-byebye-if .byebye-if .result) _ _ (sym (at-of-room .of-room .ensures _ _ refl .1 (a .name .now)) ∙ at-if1 .if1 .left)
+    lending.done-answers (engine (a .head .now) (a .links .now) searches (a .numbers .now) (a .texts .now)) _ (Deadvertise (a .name .now) (length (a .outbox .now))) (at-byebye-if .byebye-if .result) _ _ (sym (at-of-room .of-room .ensures _ _ _ refl .1 (a .name .now)) ∙ at-if1 .if1 .left)
     (lending.names-changed (a .head .now) (a .links .now) searches (a .numbers .now) (a .texts .now) size (at-leave .leave .result) _ (at-set-count .set-count .ensures) (at-leave .leave .ensures (a .name .now) (at-spot-of .spot-of .ensures)))
     (c .before .dropping .ensures .0 ∙ ap drops (at-dropped-at .dropped-at .ensures ∙ lending.dropped-is (a .head .now) (a .numbers .now) (a .texts .now) (a .name .now) (at-spot-of .spot-of .result) (at-spot-of .spot-of .ensures)) ∙ sym (answering.plus-zeros (drops _))) (c .before .dropping .ensures .1)
     (answering.sent-as (at-byebye-if .byebye-if .ensures) (lending.byebyes-are (a .head .now) (a .numbers .now) (a .texts .now) (a .name .now) (at-spot-of .spot-of .result) (at-spot-of .spot-of .ensures) (upAddresses (linksIn (a .head .now) (a .links .now)))))

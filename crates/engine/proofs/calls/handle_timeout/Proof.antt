@@ -2,6 +2,7 @@
 use mathlib.Core.Path.{_∙_, _≡_, ap, refl, sym}
 use mathlib.Core.List.{List}
 use Prim.Native.Nat.{_≤_, _<_}
+use Rattle.engine.proofs.Bound.{enough}
 use Rattle.engine.proofs.Accepted.{passed}
 use Rattle.engine.proofs.NothingDue.{idle-done, idle-counts, idle-sent}
 use Rattle.engine.proofs.Timer.{timer-accepted}
@@ -14,7 +15,7 @@ use Rattle.engine.specs.Records.{records, refreshRecords, timeoutOn}
 use Rattle.engine.specs.RefreshTimer.{timerStep}
 use Rattle.engine.specs.Refusals.{checks}
 use Rattle.engine.specs.Replies.{aloneAt, groupAt, result, results, sumOf}
-use Rattle.engine.specs.Sizes.{outboxSize, timeMax}
+use Rattle.engine.specs.Sizes.{timeMax}
 use Rattle.engine.specs.Outcomes.{sends}
 use Rattle.engine.specs.declared.answer.Answer.{Answer}
 use Rattle.engine.specs.declared.refresh_timer.RefreshTimer.{RefreshTimer}
@@ -40,7 +41,7 @@ returns c =
     let at-if1 = c .before .before .before .before .before in
     let at-of-timeout = at-if1 .before in
     let a = at-of-timeout .before .before .args in
-    lending.refused-answers (engine (a .head .now) (a .links .now) (a .searches .now) (a .numbers .now) (a .texts .now)) (Timeout (a .time) (length (a .outbox .now))) _ _ (at-of-timeout .of-timeout .result) (sym (at-of-timeout .of-timeout .ensures _ _ refl)) (at-if1 .if1 .taken) (c .refused .ensures _ _ _)
+    lending.refused-answers (engine (a .head .now) (a .links .now) (a .searches .now) (a .numbers .now) (a .texts .now)) (Timeout (a .time) (length (a .outbox .now))) _ _ (at-of-timeout .of-timeout .result) (sym (at-of-timeout .of-timeout .ensures _ _ _ refl)) (at-if1 .if1 .taken) (c .refused .ensures _ _ _)
 
 nothing-requires : tie.Need-nothing-requires
 nothing-requires c κs = search needs
@@ -60,7 +61,7 @@ returns-2 c =
     let room = length (a .outbox .now) in
     let answer = at-accepted .accepted .ensures (a .links .now) (a .searches .now) (a .texts .now) in
     let early : a .time < poll (held t) = omega (arith, c .if2 .taken, ap (λ (x : Answer). x .poll) answer) in
-    lending.done-answers t t (Timeout (a .time) room) 0 _ _ (sym (at-of-timeout .of-timeout .ensures _ _ refl) ∙ at-if1 .if1 .left) (idle-done (held t) (a .time) room early)
+    lending.done-answers t t (Timeout (a .time) room) 0 _ _ (sym (at-of-timeout .of-timeout .ensures _ _ _ refl) ∙ at-if1 .if1 .left) (idle-done (held t) (a .time) room early)
     (at-nothing .nothing .ensures .0 ∙ idle-counts (held t) (a .time) room early) (at-nothing .nothing .ensures .1) (idle-sent (held t) (a .time) room (a .outbox .now) early) answer
 
 of-up-links-requires : tie.Need-of-up-links-requires
@@ -70,15 +71,20 @@ timer-in-requires : tie.Need-timer-in-requires
 timer-in-requires c κs = search needs
 
 send-timeout-requires : tie.Need-send-timeout-requires
-unfolding checks namesOf
+unfolding checks namesOf held records refreshRecords
 send-timeout-requires c κs =
     let at-if1 = c .before .before .before .before .before .before .before .before .before .before .before .before .before .before .before .before .before .before .before .before .before .before .before .before in
     let at-of-timeout = at-if1 .before in
     let a = at-of-timeout .before .before .args in
     let t = engine (a .head .now) (a .links .now) (a .searches .now) (a .numbers .now) (a .texts .now) in
     let call = Timeout (a .time) (length (a .outbox .now)) in
-    let p = passed (held t .context) (namesOf (held t) call) call (sym (at-of-timeout .of-timeout .ensures _ _ refl) ∙ at-if1 .if1 .left) in
-    let room : outboxSize ≤ length (a .outbox .now) = omega (arith, ltb-false (length (a .outbox .now)) outboxSize (p .1 .0)) in
+    let p = passed (held t .context) (namesOf (held t) call) call (sym (at-of-timeout .of-timeout .ensures _ _ _ refl) ∙ at-if1 .if1 .left) in
+    let at-timer-in = c .before .before .before .before .before .before .before .before in
+    let up = at-timer-in .before .before .before .before .of-up-links .ensures .held in
+    let room =
+    enough t call (a .outbox .now) (p .1 .0)
+    (λ i. timeoutOn (up i) (leb (at-timer-in .timer-in .ensures i .«next_salvo») (a .time)) (a .time) (searchesIn (a .head .now) (a .searches .now)) (namesIn (a .head .now) (a .numbers .now) (a .texts .now)))
+    in
     search needs
 
 serve-all-requires : tie.Need-serve-all-requires
@@ -115,7 +121,7 @@ returns-3 c =
     let size : length (a .head .now) ≡ headPlaces = omega (arith, at-timer-in-arg2 .timer-in-arg2 .given .0) in
     let t = engine (a .head .now) (a .links .now) (a .searches .now) (a .numbers .now) (a .texts .now) in
     let call = Timeout (a .time) (length (a .outbox .now)) in
-    let p = passed (held t .context) (namesOf (held t) call) call (sym (at-of-timeout .of-timeout .ensures _ _ refl) ∙ at-if1 .if1 .left) in
+    let p = passed (held t .context) (namesOf (held t) call) call (sym (at-of-timeout .of-timeout .ensures _ _ _ refl) ∙ at-if1 .if1 .left) in
     let head = a .head .now in
     let names = namesIn head (a .numbers .now) (a .texts .now) in
     let time : a .time ≤ timeMax = omega (arith, ltb-false timeMax (a .time) (p .0)) in
@@ -123,7 +129,7 @@ returns-3 c =
     at-rolled .rolled .ensures ∙ timer-accepted (a .time) (at-timer-in .timer-in .result) (timerStep (at-timer-in .timer-in .result) (a .time)) time ∙ ap (λ (x : RefreshTimer). timerStep x (a .time)) (at-timer-in .timer-in .ensures)
     in
     let s = at-serve-all .serve-all .ensures (a .texts .now) in
-    lending.done-answers t _ call (at-send-timeout .send-timeout .result) _ _ (sym (at-of-timeout .of-timeout .ensures _ _ refl) ∙ at-if1 .if1 .left)
+    lending.done-answers t _ call (at-send-timeout .send-timeout .result) _ _ (sym (at-of-timeout .of-timeout .ensures _ _ _ refl) ∙ at-if1 .if1 .left)
     (lending.timer-changed head (a .links .now) (a .searches .now) _ (a .texts .now) size (at-rolled .rolled .result) (timerStep (timerIn head) (a .time)) (at-set-timer .set-timer .ensures) timer (lending.step-keeps head (a .time))
     ∙ ap (λ (l : List Advertisement). holding (seedIn head) (timerStep (timerIn head) (a .time)) (linksIn head (a .links .now)) (searchesIn head (a .searches .now)) l) (s .table))
     (c .before .sending .ensures .0 ∙ (λ i. sends (s .first i) (s .second i)) ∙ sym (answering.plus-zeros (sends (sumOf (aloneAt (a .time)) names) (sumOf (groupAt (a .time)) names)))) (c .before .sending .ensures .1)

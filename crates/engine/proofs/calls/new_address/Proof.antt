@@ -2,7 +2,7 @@
 use mathlib.Core.Path.{_∙_, _≡_, ap, refl, sym}
 use mathlib.Core.Bool.{_&&_, cond}
 use mathlib.Core.List.{[]}
-use Prim.Native.Nat.{_≤_}
+use Rattle.engine.proofs.Bound.{enough}
 use Rattle.engine.proofs.Accepted.{passed}
 use Rattle.engine.specs.Arrays.{headPlaces, held, linksIn, namesIn, searchesIn, engine}
 use Rattle.engine.specs.Calls.{NewAddress, acts}
@@ -11,9 +11,7 @@ use Rattle.engine.specs.Links.{contextAfter}
 use Rattle.engine.specs.Records.{addressRecords, allFrom, records}
 use Rattle.engine.specs.Refusals.{checks}
 use Rattle.engine.specs.Replies.{results}
-use Rattle.engine.specs.Sizes.{outboxSize}
 use borrow.Author.Needs.{needs}
-use borrow.Author.Tests.{ltb-false}
 use lib.ListN.{length}
 use native.Mathlib.Omega.{arith}
 use Rattle.engine.proofs.Answering as answering
@@ -45,13 +43,13 @@ returns c =
     let at-is-stored = at-count-of .before in
     let at-lookup = at-is-stored .before .before in
     let a = at-lookup .before .before .before .before .before .before .before .args in
-    lending.refused-answers (engine (a .head .now) (a .links .now) (a .searches .now) (a .numbers .now) (a .texts .now)) (NewAddress (a .index) (a .address .now) (length (a .outbox .now))) _ _ (at-of-new-address .of-new-address .result) (sym (at-of-new-address .of-new-address .ensures _ _ (sym (at-is-stored .is-stored .ensures (a .index) (linksIn (a .head .now) (a .links .now)) (at-lookup .lookup .ensures))) (sym (at-count-of .count-of .ensures ∙ ap length (at-lookup .lookup .ensures .addresses))) refl)) (at-if1 .if1 .taken) (c .refused .ensures _ _ _)
+    lending.refused-answers (engine (a .head .now) (a .links .now) (a .searches .now) (a .numbers .now) (a .texts .now)) (NewAddress (a .index) (a .address .now) (length (a .outbox .now))) _ _ (at-of-new-address .of-new-address .result) (sym (at-of-new-address .of-new-address .ensures _ _ _ (sym (at-is-stored .is-stored .ensures (a .index) (linksIn (a .head .now) (a .links .now)) (at-lookup .lookup .ensures))) (sym (at-count-of .count-of .ensures ∙ ap length (at-lookup .lookup .ensures .addresses))) refl)) (at-if1 .if1 .taken) (c .refused .ensures _ _ _)
 
 number-of-requires : tie.Need-number-of-requires
 number-of-requires c κs = search needs
 
 send-if-stored-requires : tie.Need-send-if-stored-requires
-unfolding checks namesOf held
+unfolding checks namesOf held records addressRecords
 send-if-stored-requires c κs =
     let at-send-if-stored-arg3 = c .before .before .before in
     let at-if1 = at-send-if-stored-arg3 .before .before .before .before .before in
@@ -62,8 +60,12 @@ send-if-stored-requires c κs =
     let a = at-lookup .before .before .before .before .before .before .before .args in
     let t = engine (a .head .now) (a .links .now) (a .searches .now) (a .numbers .now) (a .texts .now) in
     let call = NewAddress (a .index) (a .address .now) (length (a .outbox .now)) in
-    let p = passed (held t .context) (namesOf (held t) call) call (sym (at-of-new-address .of-new-address .ensures _ _ (sym (at-is-stored .is-stored .ensures (a .index) (linksIn (a .head .now) (a .links .now)) (at-lookup .lookup .ensures))) (sym (at-count-of .count-of .ensures ∙ ap length (at-lookup .lookup .ensures .addresses))) refl) ∙ at-if1 .if1 .left) in
-    let room : outboxSize ≤ length (a .outbox .now) = omega (arith, ltb-false (length (a .outbox .now)) outboxSize (p .0)) in
+    let p = passed (held t .context) (namesOf (held t) call) call (sym (at-of-new-address .of-new-address .ensures _ _ _ (sym (at-is-stored .is-stored .ensures (a .index) (linksIn (a .head .now) (a .links .now)) (at-lookup .lookup .ensures))) (sym (at-count-of .count-of .ensures ∙ ap length (at-lookup .lookup .ensures .addresses))) refl) ∙ at-if1 .if1 .left) in
+    let sends = allFrom (searchesIn (a .head .now) (a .searches .now)) (namesIn (a .head .now) (a .numbers .now) (a .texts .now)) in
+    let room =
+    enough t call (a .outbox .now) (p .0)
+    (λ i. cond (at-is-stored .is-stored .ensures (a .index) (linksIn (a .head .now) (a .links .now)) (at-lookup .lookup .ensures) i && at-lookup .lookup .ensures .up i) (sends (at-send-if-stored-arg3 .before .before .before .before .number-of .ensures i)) [])
+    in
     ((omega (arith, at-send-if-stored-arg3 .send-if-stored-arg3 .given .0), omega (arith, c .before .before .send-if-stored-arg4 .given .0)), (omega (arith, c .before .send-if-stored-arg5 .given .0), omega (arith, c .send-if-stored-arg6 .given .0)), room)
 
 address-stored-requires : tie.Need-address-stored-requires
@@ -98,7 +100,7 @@ returns-2 c =
     let size : length (a .head .now) ≡ headPlaces = omega (arith, at-lookup-arg2 .lookup-arg2 .given .0) in
     let t = engine (a .head .now) (a .links .now) (a .searches .now) (a .numbers .now) (a .texts .now) in
     let call = NewAddress (a .index) (a .address .now) (length (a .outbox .now)) in
-    let number = sym (at-of-new-address .of-new-address .ensures _ _ (sym (at-is-stored .is-stored .ensures (a .index) (linksIn (a .head .now) (a .links .now)) (at-lookup .lookup .ensures))) (sym (at-count-of .count-of .ensures ∙ ap length (at-lookup .lookup .ensures .addresses))) refl) ∙ at-if1 .if1 .left in
+    let number = sym (at-of-new-address .of-new-address .ensures _ _ _ (sym (at-is-stored .is-stored .ensures (a .index) (linksIn (a .head .now) (a .links .now)) (at-lookup .lookup .ensures))) (sym (at-count-of .count-of .ensures ∙ ap length (at-lookup .lookup .ensures .addresses))) refl) ∙ at-if1 .if1 .left in
     let p = passed (held t .context) (namesOf (held t) call) call number in
     let links = linksIn (a .head .now) (a .links .now) in
     let sends = allFrom (searchesIn (a .head .now) (a .searches .now)) (namesIn (a .head .now) (a .numbers .now) (a .texts .now)) in

@@ -2,7 +2,8 @@
 use mathlib.Core.Path.{_∙_, _≡_, ap, refl, sym}
 use mathlib.Core.Bool.{Bool, cond}
 use mathlib.Core.List.{List, []}
-use Prim.Native.Nat.{_≤_, ℕ}
+use Prim.Native.Nat.{ℕ}
+use Rattle.engine.proofs.Bound.{enough}
 use Rattle.engine.proofs.Accepted.{passed}
 use Rattle.engine.specs.Arrays.{headPlaces, held, linksIn, namesIn, searchesIn, engine}
 use Rattle.engine.specs.Calls.{NewLink, acts}
@@ -11,9 +12,7 @@ use Rattle.engine.specs.Links.{contextAfter}
 use Rattle.engine.specs.Records.{addressRecords, allFrom, flat, records, turnsUp}
 use Rattle.engine.specs.Refusals.{checks}
 use Rattle.engine.specs.Replies.{results}
-use Rattle.engine.specs.Sizes.{outboxSize}
 use borrow.Author.Needs.{needs}
-use borrow.Author.Tests.{ltb-false}
 use lib.ListN.{length, take}
 use native.Mathlib.Omega.{arith}
 use Rattle.engine.proofs.Answering as answering
@@ -45,13 +44,13 @@ returns c =
     let at-is-multicast = at-count-of .before .before .before in
     let at-lookup = at-is-multicast .before in
     let a = at-lookup .before .before .before .before .before .before .args in
-    lending.refused-answers (engine (a .head .now) (a .links .now) (a .searches .now) (a .numbers .now) (a .texts .now)) (NewLink (a .index) (a .flags) (a .outcome) (length (a .outbox .now))) _ _ (at-of-new-link .of-new-link .result) (sym (at-of-new-link .of-new-link .ensures _ _ (a .flags) (sym (at-is-multicast .is-multicast .ensures)) (sym (at-lookup .lookup .ensures .known)) (lending.links-length (a .head .now) (a .links .now) ∙ sym (at-count-of .count-of .ensures)) refl)) (at-if1 .if1 .taken) (c .refused .ensures _ _ _)
+    lending.refused-answers (engine (a .head .now) (a .links .now) (a .searches .now) (a .numbers .now) (a .texts .now)) (NewLink (a .index) (a .flags) (a .outcome) (length (a .outbox .now))) _ _ (at-of-new-link .of-new-link .result) (sym (at-of-new-link .of-new-link .ensures _ _ _ (a .flags) (sym (at-is-multicast .is-multicast .ensures)) (sym (at-lookup .lookup .ensures .known)) (lending.links-length (a .head .now) (a .links .now) ∙ sym (at-count-of .count-of .ensures)) refl)) (at-if1 .if1 .taken) (c .refused .ensures _ _ _)
 
 turns-up-requires : tie.Need-turns-up-requires
 turns-up-requires c κs = search needs
 
 send-if-up-requires : tie.Need-send-if-up-requires
-unfolding checks namesOf held
+unfolding checks namesOf held records addressRecords
 send-if-up-requires c κs =
     let at-send-if-up-arg3 = c .before .before .before in
     let at-if1 = at-send-if-up-arg3 .before .before .before .before .before .before in
@@ -62,8 +61,14 @@ send-if-up-requires c κs =
     let a = at-lookup .before .before .before .before .before .before .args in
     let t = engine (a .head .now) (a .links .now) (a .searches .now) (a .numbers .now) (a .texts .now) in
     let call = NewLink (a .index) (a .flags) (a .outcome) (length (a .outbox .now)) in
-    let p = passed (held t .context) (namesOf (held t) call) call (sym (at-of-new-link .of-new-link .ensures _ _ (a .flags) (sym (at-is-multicast .is-multicast .ensures)) (sym (at-lookup .lookup .ensures .known)) (lending.links-length (a .head .now) (a .links .now) ∙ sym (at-count-of .count-of .ensures)) refl) ∙ at-if1 .if1 .left) in
-    let room : outboxSize ≤ length (a .outbox .now) = omega (arith, ltb-false (length (a .outbox .now)) outboxSize (p .0)) in
+    let p = passed (held t .context) (namesOf (held t) call) call (sym (at-of-new-link .of-new-link .ensures _ _ _ (a .flags) (sym (at-is-multicast .is-multicast .ensures)) (sym (at-lookup .lookup .ensures .known)) (lending.links-length (a .head .now) (a .links .now) ∙ sym (at-count-of .count-of .ensures)) refl) ∙ at-if1 .if1 .left) in
+    let links = linksIn (a .head .now) (a .links .now) in
+    let sends = flat (allFrom (searchesIn (a .head .now) (a .searches .now)) (namesIn (a .head .now) (a .numbers .now) (a .texts .now))) in
+    let room =
+    enough t call (a .outbox .now) (p .0)
+    (ap (λ (b : Bool). cond b (sends (take (at-lookup .lookup .result .link .count) (at-lookup .lookup .result .link .addresses))) []) (at-send-if-up-arg3 .before .before .before .turns-up .ensures (a .index) links (at-lookup .lookup .ensures))
+    ∙ ap (λ (l : List ℕ). cond (turnsUp (a .index) (a .flags) links) (sends l) []) (at-lookup .lookup .ensures .addresses))
+    in
     ((omega (arith, at-send-if-up-arg3 .send-if-up-arg3 .given .0), omega (arith, c .before .before .send-if-up-arg4 .given .0)), (omega (arith, c .before .send-if-up-arg5 .given .0), omega (arith, c .send-if-up-arg6 .given .0)), room)
 
 link-stored-requires : tie.Need-link-stored-requires
@@ -98,7 +103,7 @@ returns-2 c =
     let size : length (a .head .now) ≡ headPlaces = omega (arith, at-lookup-arg2 .lookup-arg2 .given .0) in
     let t = engine (a .head .now) (a .links .now) (a .searches .now) (a .numbers .now) (a .texts .now) in
     let call = NewLink (a .index) (a .flags) (a .outcome) (length (a .outbox .now)) in
-    let number = sym (at-of-new-link .of-new-link .ensures _ _ (a .flags) (sym (at-is-multicast .is-multicast .ensures)) (sym (at-lookup .lookup .ensures .known)) (lending.links-length (a .head .now) (a .links .now) ∙ sym (at-count-of .count-of .ensures)) refl) ∙ at-if1 .if1 .left in
+    let number = sym (at-of-new-link .of-new-link .ensures _ _ _ (a .flags) (sym (at-is-multicast .is-multicast .ensures)) (sym (at-lookup .lookup .ensures .known)) (lending.links-length (a .head .now) (a .links .now) ∙ sym (at-count-of .count-of .ensures)) refl) ∙ at-if1 .if1 .left in
     let p = passed (held t .context) (namesOf (held t) call) call number in
     let links = linksIn (a .head .now) (a .links .now) in
     let sends = flat (allFrom (searchesIn (a .head .now) (a .searches .now)) (namesIn (a .head .now) (a .numbers .now) (a .texts .now))) in

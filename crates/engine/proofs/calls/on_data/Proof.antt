@@ -69,13 +69,13 @@ on-notice-requires c κs =
     let at-parse = at-answer .before .before in
     let a = at-parse .before .before .before .args in
     let searches : length (a .searches .now) ≡ searchBytes = omega arith in
-    ((omega arith, searches), omega arith, omega arith, sym (at-parse .parse .ensures) ∙ ap answerOf (at-answer .answer .given .1), hearing.no-search (at-answer .answer .given .1) (at-match2 .match2 .keys2))
+    ((omega arith, searches), omega arith, sym (at-parse .parse .ensures) ∙ ap answerOf (at-answer .answer .given .1), hearing.no-search (at-answer .answer .given .1) (at-match2 .match2 .keys2))
 
 returns-3 : tie.Need-returns-3
 returns-3 c links = c .on-search .ensures links _
 
 returns-4 : tie.Need-returns-4
-returns-4 c links = c .on-notice .ensures links _
+returns-4 c links = c .on-notice .ensures links _ _ _ _ (omega arith)
 
 pub on-data-spec : {M : Type 1} → statement M
 on-data-spec =

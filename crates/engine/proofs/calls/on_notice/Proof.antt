@@ -36,7 +36,7 @@ accepted-requires c κs = search needs
 
 returns : tie.Need-returns
 unfolding refusalOf held contextAfter acts results records notifies
-returns c links texts =
+returns c links texts time receiver sender early =
     let at-field = c .before .before .before in
     let at-type-of = at-field .before in
     let start = at-type-of .before .before .before .before .before in
@@ -44,9 +44,9 @@ returns c links texts =
     let head = a .head .now in
     let names = namesIn head (a .numbers .now) texts in
     let subs = searchesIn head (a .searches .now) in
-    let m = subst (hearing.Noticed (a .datagram .now) (typeOf (a .said))) (sym (start .pre .3)) (hearing.notice-read (a .datagram .now) (a .said) (start .pre .4)) in
-    let none = sym (m .asking (a .time) (a .sender) (a .receiver)) in
-    lending.done-answers (engine (a .head .now) links (a .searches .now) (a .numbers .now) texts) (engine (a .head .now) links (a .searches .now) (a .numbers .now) texts) (Datagram (a .time) (a .sender) (a .receiver) (a .datagram .now)) 0 _ _ (hearing.notice-refusal _ _ (a .time) (a .sender) (a .receiver) (a .datagram .now) (typeOf (a .said)) (start .pre .2) m)
+    let m = subst (hearing.Noticed (a .datagram .now) (typeOf (a .said))) (sym (start .pre .2)) (hearing.notice-read (a .datagram .now) (a .said) (start .pre .3)) in
+    let none = sym (m .asking time sender receiver) in
+    lending.done-answers (engine (a .head .now) links (a .searches .now) (a .numbers .now) texts) (engine (a .head .now) links (a .searches .now) (a .numbers .now) texts) (Datagram time sender receiver (a .datagram .now)) 0 _ _ (hearing.notice-refusal _ _ time sender receiver (a .datagram .now) (typeOf (a .said)) early m)
     (ap (λ (l : List Act). holding (seedIn head) (timerIn head) (linksIn head links) subs (results (seedIn head) names l .advertisements)) none)
     (c .before .notifying .ensures .0 ∙ ap (λ (l : List Act). results (seedIn head) names l .counts) none)
     (c .before .notifying .ensures .1 ∙ ap (λ (x : ℕ). notifiesMask x (c .before .before .told-of .result .told)) (c .before .before .told-of .ensures .mask) ∙ ap (notifiesMask _) (c .before .before .told-of .ensures .told)

@@ -1,7 +1,8 @@
 -- `calls::refresh` meets its contract: refused, or with all announcements sent.
 use mathlib.Core.Path.{_∙_, ap, refl, sym}
 use mathlib.Core.List.{List}
-use Prim.Native.Nat.{_≤_, ℕ}
+use Prim.Native.Nat.{ℕ}
+use Rattle.engine.proofs.Bound.{enough}
 use Rattle.engine.proofs.Accepted.{passed}
 use Rattle.engine.specs.Arrays.{held, namesIn, searchesIn, engine}
 use Rattle.engine.specs.Calls.{Refresh, acts}
@@ -10,11 +11,8 @@ use Rattle.engine.specs.Links.{contextAfter}
 use Rattle.engine.specs.Records.{records, refreshOn, refreshRecords}
 use Rattle.engine.specs.Refusals.{checks}
 use Rattle.engine.specs.Replies.{results}
-use Rattle.engine.specs.Sizes.{outboxSize}
 use borrow.Author.Needs.{needs}
-use borrow.Author.Tests.{ltb-false}
 use lib.ListN.{length}
-use native.Mathlib.Omega.{arith}
 use Rattle.engine.proofs.Answering as answering
 use Rattle.engine.proofs.Lending as lending
 use Rattle.engine.proofs.calls.refresh.Statement.{statement}
@@ -32,21 +30,24 @@ returns c =
     let at-if1 = c .before .before .before in
     let at-of-room = at-if1 .before in
     let a = at-of-room .before .before .args in
-    lending.refused-answers (engine (a .head .now) (a .links .now) (a .searches .now) (a .numbers .now) (a .texts .now)) (Refresh (length (a .outbox .now))) _ _ (at-of-room .of-room .result) (sym (at-of-room .of-room .ensures _ _ refl .0)) (at-if1 .if1 .taken) (c .refused .ensures _ _ _)
+    lending.refused-answers (engine (a .head .now) (a .links .now) (a .searches .now) (a .numbers .now) (a .texts .now)) (Refresh (length (a .outbox .now))) _ _ (at-of-room .of-room .result) (sym (at-of-room .of-room .ensures _ _ _ refl .0)) (at-if1 .if1 .taken) (c .refused .ensures _ _ _)
 
 of-up-links-requires : tie.Need-of-up-links-requires
 of-up-links-requires c κs = search needs
 
 send-refresh-requires : tie.Need-send-refresh-requires
-unfolding checks namesOf
+unfolding checks namesOf held records refreshRecords
 send-refresh-requires c κs =
     let at-if1 = c .before .before .before .before .before .before .before .before .before in
     let at-of-room = at-if1 .before in
     let a = at-of-room .before .before .args in
     let t = engine (a .head .now) (a .links .now) (a .searches .now) (a .numbers .now) (a .texts .now) in
     let call = Refresh (length (a .outbox .now)) in
-    let p = passed (held t .context) (namesOf (held t) call) call (sym (at-of-room .of-room .ensures _ _ refl .0) ∙ at-if1 .if1 .left) in
-    let room : outboxSize ≤ length (a .outbox .now) = omega (arith, ltb-false (length (a .outbox .now)) outboxSize (p .0)) in
+    let p = passed (held t .context) (namesOf (held t) call) call (sym (at-of-room .of-room .ensures _ _ _ refl .0) ∙ at-if1 .if1 .left) in
+    let room =
+    enough t call (a .outbox .now) (p .0)
+    (ap (λ (l : List ℕ). refreshOn l (searchesIn (a .head .now) (a .searches .now)) (namesIn (a .head .now) (a .numbers .now) (a .texts .now))) (c .before .before .before .before .before .before .of-up-links .ensures .held))
+    in
     search needs
 
 nothing-requires : tie.Need-nothing-requires
@@ -67,7 +68,7 @@ returns-2 c =
     let at-of-room = at-if1 .before in
     let a = at-of-room .before .before .args in
     let t = engine (a .head .now) (a .links .now) (a .searches .now) (a .numbers .now) (a .texts .now) in
-    lending.done-answers t t (Refresh (length (a .outbox .now))) (at-send-refresh .send-refresh .result) _ _ (sym (at-of-room .of-room .ensures _ _ refl .0) ∙ at-if1 .if1 .left) refl (c .before .nothing .ensures .0) (c .before .nothing .ensures .1)
+    lending.done-answers t t (Refresh (length (a .outbox .now))) (at-send-refresh .send-refresh .result) _ _ (sym (at-of-room .of-room .ensures _ _ _ refl .0) ∙ at-if1 .if1 .left) refl (c .before .nothing .ensures .0) (c .before .nothing .ensures .1)
     (answering.sent-as (at-send-refresh .send-refresh .ensures)
     (ap (λ (l : List ℕ). refreshOn l (searchesIn (a .head .now) (a .searches .now)) (namesIn (a .head .now) (a .numbers .now) (a .texts .now))) (at-of-up-links .of-up-links .ensures .held)))
     (c .accepted .ensures _ _ _)

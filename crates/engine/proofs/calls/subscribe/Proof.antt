@@ -2,6 +2,7 @@
 use mathlib.Core.Path.{_∙_, _≡_, ap, refl, sym}
 use mathlib.Core.List.{List, []}
 use Prim.Native.Nat.{ℕ}
+use Rattle.engine.proofs.Bound.{enough}
 use Rattle.engine.proofs.Accepted.{passed}
 use Rattle.engine.specs.Arrays.{headPlaces, held, engine}
 use Rattle.engine.specs.Calls.{Subscribe, acts}
@@ -10,7 +11,6 @@ use Rattle.engine.specs.Links.{contextAfter}
 use Rattle.engine.specs.Records.{records, searchOn}
 use Rattle.engine.specs.Refusals.{checks}
 use Rattle.engine.specs.Replies.{results}
-use Rattle.engine.specs.Sizes.{outboxSize}
 use Rattle.message.specs.Build.{typeMax}
 use borrow.Author.Needs.{needs}
 use borrow.Author.Tests.{ltb-false}
@@ -37,13 +37,13 @@ returns c texts =
     let at-of-subscribe = at-if1 .before in
     let at-count-of = at-of-subscribe .before in
     let a = at-count-of .before .before .before .before .before .args in
-    lending.refused-answers (engine (a .head .now) (a .links .now) (a .searches .now) (a .numbers .now) texts) (Subscribe (a .service .now) (length (a .outbox .now))) _ _ (at-of-subscribe .of-subscribe .result) (sym (at-of-subscribe .of-subscribe .ensures _ _ (lending.searches-length (a .head .now) (a .searches .now) ∙ sym (at-count-of .count-of .ensures)) refl)) (at-if1 .if1 .taken) (c .refused .ensures _ _ _)
+    lending.refused-answers (engine (a .head .now) (a .links .now) (a .searches .now) (a .numbers .now) texts) (Subscribe (a .service .now) (length (a .outbox .now))) _ _ (at-of-subscribe .of-subscribe .result) (sym (at-of-subscribe .of-subscribe .ensures _ _ _ (lending.searches-length (a .head .now) (a .searches .now) ∙ sym (at-count-of .count-of .ensures)) refl)) (at-if1 .if1 .taken) (c .refused .ensures _ _ _)
 
 of-up-links-requires : tie.Need-of-up-links-requires
 of-up-links-requires c κs = search needs
 
 send-search-requires : tie.Need-send-search-requires
-unfolding checks namesOf held
+unfolding checks namesOf held records
 send-search-requires c κs =
     let at-if1 = c .before .before .before .before .before .before in
     let at-of-subscribe = at-if1 .before in
@@ -51,8 +51,8 @@ send-search-requires c κs =
     let a = at-count-of .before .before .before .before .before .args in
     let t = engine (a .head .now) (a .links .now) (a .searches .now) (a .numbers .now) [] in
     let call = Subscribe (a .service .now) (length (a .outbox .now)) in
-    let p = passed (held t .context) (namesOf (held t) call) call (sym (at-of-subscribe .of-subscribe .ensures _ _ (lending.searches-length (a .head .now) (a .searches .now) ∙ sym (at-count-of .count-of .ensures)) refl) ∙ at-if1 .if1 .left) in
-    omega (arith, ltb-false (length (a .outbox .now)) outboxSize (p .0))
+    let p = passed (held t .context) (namesOf (held t) call) call (sym (at-of-subscribe .of-subscribe .ensures _ _ _ (lending.searches-length (a .head .now) (a .searches .now) ∙ sym (at-count-of .count-of .ensures)) refl) ∙ at-if1 .if1 .left) in
+    enough t call (a .outbox .now) (p .0) (ap (λ (l : List ℕ). searchOn l (a .service .now)) (c .before .before .of-up-links .ensures .held))
 
 push-requires : tie.Need-push-requires
 unfolding checks namesOf held
@@ -63,7 +63,7 @@ push-requires c κs =
     let a = at-count-of .before .before .before .before .before .args in
     let t = engine (a .head .now) (a .links .now) (a .searches .now) (a .numbers .now) [] in
     let call = Subscribe (a .service .now) (length (a .outbox .now)) in
-    let p = passed (held t .context) (namesOf (held t) call) call (sym (at-of-subscribe .of-subscribe .ensures _ _ (lending.searches-length (a .head .now) (a .searches .now) ∙ sym (at-count-of .count-of .ensures)) refl) ∙ at-if1 .if1 .left) in (
+    let p = passed (held t .context) (namesOf (held t) call) call (sym (at-of-subscribe .of-subscribe .ensures _ _ _ (lending.searches-length (a .head .now) (a .searches .now) ∙ sym (at-count-of .count-of .ensures)) refl) ∙ at-if1 .if1 .left) in (
       lending.searches-free (a .head .now) (a .searches .now) (at-count-of .count-of .result) (at-count-of .count-of .ensures) (p .1 .1 .1 .0),
       ltb-false typeMax (length (a .service .now)) (p .1 .0),
       omega arith,
@@ -98,7 +98,7 @@ returns-2 c texts =
     let size : length (a .head .now) ≡ headPlaces = omega arith in
     let t = engine (a .head .now) (a .links .now) (a .searches .now) (a .numbers .now) texts in
     let call = Subscribe (a .service .now) (length (a .outbox .now)) in
-    let number = sym (at-of-subscribe .of-subscribe .ensures _ _ (lending.searches-length (a .head .now) (a .searches .now) ∙ sym (at-count-of .count-of .ensures)) refl) ∙ at-if1 .if1 .left in
+    let number = sym (at-of-subscribe .of-subscribe .ensures _ _ _ (lending.searches-length (a .head .now) (a .searches .now) ∙ sym (at-count-of .count-of .ensures)) refl) ∙ at-if1 .if1 .left in
     let p = passed (held t .context) (namesOf (held t) call) call number in
     let free = lending.searches-free (a .head .now) (a .searches .now) (at-count-of .count-of .result) (at-count-of .count-of .ensures) (p .1 .1 .1 .0) in
     lending.done-answers t _ call (at-send-search .send-search .result) _ _ number

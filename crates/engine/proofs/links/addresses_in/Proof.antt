@@ -1,9 +1,11 @@
 -- The first i addresses stand in the array. The measure is what is left of them.
-use mathlib.Core.Path.{_≡_, refl}
+use mathlib.Core.Path.{_≡_, refl, _∙_}
+use mathlib.Core.List.{map}
 use Prim.Native.Nat.{_-_}
 use Rattle.engine.specs.Sizes.{addressesMax}
-use Rattle.engine.specs.Arrays.{linkWidth}
-use lib.ListN.{length}
+use Rattle.engine.specs.Arrays.{low32, firstAddress, linkWidth}
+use lib.ListN.{length, drop}
+use Rattle.engine.proofs.Copies.{Copied, copied-turn, copied-all}
 use Rattle.engine.proofs.LinkRows as links
 use borrow.Author.Needs.{needs}
 use native.Mathlib.Omega.{arith}
@@ -11,7 +13,7 @@ use Rattle.engine.proofs.links.addresses_in.Statement.{statement}
 use Rattle.engine.proofs.links.addresses_in.Tie as tie
 
 abbrev Inv-loop : tie.InvT-loop
-Inv-loop row out₀ i₀ out i = (length row ≡ linkWidth) × links.Reading row i out
+Inv-loop row out₀ i₀ out i = (length row ≡ linkWidth) × Copied (map low32 (drop firstAddress row)) addressesMax i out
 
 abbrev μ-loop : tie.MeasureT-loop
 μ-loop row out₀ i₀ out i = addressesMax - i
@@ -46,12 +48,13 @@ loop-less c = omega arith
 loop-again : tie.Need-loop-again Inv-loop μ-loop
 loop-again c =
     let h = c .before .before .before .loop in
-    (h .inv .0, links.read-turn _ (h .inv .0) (omega arith) (c .low-32 .ensures) (h .inv .1))
+    let row = c .before .before .before .before .before .args .row .now in
+    (h .inv .0, copied-turn _ _ (links.addresses-enough row (h .inv .0)) (omega arith) (c .low-32 .ensures ∙ links.address-is row (h .i)) (h .inv .1))
 
 returns : tie.Need-returns Inv-loop μ-loop
 returns c =
     let h = c .before .loop in
-    links.read-over _ (h .inv .0) (omega arith) (h .inv .1)
+    copied-all _ _ (omega arith) (h .inv .1) ∙ links.addresses-are (c .before .before .before .args .row .now) (h .inv .0)
 
 pub addresses-in-spec : {M : Type 1} → statement M
 addresses-in-spec =

@@ -4,14 +4,15 @@ use mathlib.Core.List.{map}
 use Prim.Native.Nat.{_-_}
 use lib.ListN.{length}
 use Rattle.engine.specs.Sizes.{addressesMax}
-use Rattle.engine.specs.Arrays.{low32, linkWidth}
+use Rattle.engine.specs.Arrays.{low32, firstAddress, linkWidth}
+use Rattle.engine.proofs.Copies.{Placed, placed-none, placed-turn, placed-all}
 use Rattle.engine.proofs.LinkRows as links
 use native.Mathlib.Omega.{arith}
 use Rattle.engine.proofs.links.set_addresses.Statement.{statement}
 use Rattle.engine.proofs.links.set_addresses.Tie as tie
 
 abbrev Inv-loop : tie.InvT-loop
-Inv-loop row₀ addresses i₀ row i = (length row₀ ≡ linkWidth) × links.Writing row₀ addresses i row
+Inv-loop row₀ addresses i₀ row i = (length row₀ ≡ linkWidth) × Placed row₀ addresses firstAddress addressesMax i row
 
 abbrev μ-loop : tie.MeasureT-loop
 μ-loop row₀ addresses i₀ row i = addressesMax - i
@@ -23,7 +24,7 @@ narrow : (s : tie.Start Inv-loop μ-loop) → map low32 (s .args .t2) ≡ s .arg
 narrow s = links.all-narrow (s .args .t2) (s .good .1 .0 .0) (s .good .1 .0 .1 .1)
 
 loop-holds : tie.Need-loop-holds Inv-loop μ-loop
-loop-holds c = (c .pre, links.write-start (c .args .row .now) (c .args .t2))
+loop-holds c = (c .pre, placed-none (c .args .row .now) (c .args .t2) firstAddress addressesMax)
 
 mul-row : tie.Need-mul-row Inv-loop μ-loop
 mul-row c = omega arith
@@ -53,7 +54,7 @@ loop-again : tie.Need-loop-again Inv-loop μ-loop
 loop-again c =
     let s = c .before .before in
     let h = c .before .loop in
-    (h .inv .0, links.write-turn _ _ (h .inv .0) (full s) (omega arith) (h .inv .1))
+    (h .inv .0, placed-turn _ _ _ _ (h .inv .0) (full s) (omega arith) (h .inv .1))
 
 same-length : tie.Need-same-length Inv-loop μ-loop
 same-length c = c .before .loop .inv .1 .size
@@ -62,7 +63,8 @@ returns : tie.Need-returns Inv-loop μ-loop
 returns c =
     let s = c .before .before in
     let h = c .before .loop in
-    links.write-over _ _ (h .inv .0) (full s) (omega arith) (narrow s) (h .inv .1)
+    let p = placed-all _ _ _ _ (h .inv .0) (full s) (omega arith) (h .inv .1) in
+    (p .0, p .1, narrow s)
 
 pub set-addresses-spec : {M : Type 1} → statement M
 set-addresses-spec =

@@ -11,6 +11,9 @@ use Rattle.engine.proofs.pending.ask_one.Tie as tie
 is-asked-requires : tie.Need-is-asked-requires
 is-asked-requires c κs = search needs
 
+wants-all-requires : tie.Need-wants-all-requires
+wants-all-requires c κs = search needs
+
 ask-for-requires : tie.Need-ask-for-requires
 ask-for-requires c κs = search needs
 
@@ -23,8 +26,10 @@ same-length-2 c = search needs
 returns : tie.Need-returns
 returns c =
     λ n h m.
-    let s = c .before .before .before .before .before .before .before .before .before .before .before .before .before .before in
-    c .before .before .before .before .ask-for .ensures (s .args .target .now) n (s .pre .3) (sym (c .before .before .before .before .before .before .before .before .is-asked .ensures) ∙ c .before .before .before .before .before .before .before .if1 .taken) h m
+    let asking = c .before .before .before .before .before .before .before in
+    let s = asking .before .before .before .before .before .before .before .before in
+    let o = s .pre .3 in
+    c .before .before .before .before .ask-for .ensures (s .args .target .now) n (record { every = asking .wants-all .ensures _ (s .pre .2); reply = o .reply; answer = o .answer }) (sym (asking .before .before .is-asked .ensures) ∙ asking .before .if1 .taken) h m
 
 same-length-3 : tie.Need-same-length-3
 same-length-3 c = search needs
@@ -43,6 +48,7 @@ ask-one-spec =
     tie.close
     (tie.spec
     is-asked-requires
+    wants-all-requires
     ask-for-requires
     same-length
     same-length-2

@@ -26,7 +26,7 @@ first-requires-4 c κs = search needs
 
 returns : tie.Need-returns
 unfolding refusal checks
-returns c x n h k m = rw (h, k, m) (cc)
+returns c x n room h k m = rw (h, k, m) (cc)
 
 pub of-advertise-spec : {M : Type 1} → statement M
 of-advertise-spec =

@@ -18,7 +18,7 @@ first-requires-4 c κs = search needs
 
 returns : tie.Need-returns
 unfolding refusal checks
-returns c x n s k m = rw (s, k, m) (cc)
+returns c x n room s k m = rw (s, k, m) (cc)
 
 pub of-new-address-spec : {M : Type 1} → statement M
 of-new-address-spec =

@@ -18,7 +18,7 @@ first-requires-4 c κs = search needs
 
 returns : tie.Need-returns
 unfolding refusal checks
-returns c x n flags f h k m = rw (f, h, k, m) (cc)
+returns c x n room flags f h k m = rw (f, h, k, m) (cc)
 
 pub of-new-link-spec : {M : Type 1} → statement M
 of-new-link-spec =

@@ -21,7 +21,7 @@ first-requires-4 c κs = search needs
 
 returns : tie.Need-returns
 unfolding refusal checks
-returns c x n k m = rw (k, m) (cc)
+returns c x n room k m = rw (k, m) (cc)
 
 pub of-subscribe-spec : {M : Type 1} → statement M
 of-subscribe-spec =

@@ -12,7 +12,7 @@ first-requires-2 c κs = search needs
 
 returns : tie.Need-returns
 unfolding refusal checks
-returns c x n m = rw m (cc)
+returns c x n room m = rw m (cc)
 
 pub of-timeout-spec : {M : Type 1} → statement M
 of-timeout-spec = tie.close (tie.spec first-requires first-requires-2 returns)

@@ -4,7 +4,7 @@ use mathlib.Core.List.{List}
 use lib.ListN.{take}
 use Rattle.engine.specs.Records.{Record, refreshOn}
 use Rattle.engine.specs.Arrays.{namesIn, searchesIn}
-use Rattle.engine.proofs.Sending.{none, of}
+use Rattle.engine.proofs.Sending.{none, of, room-as}
 use Rattle.engine.proofs.Answering.{chosen, not-chosen}
 use borrow.Author.Needs.{needs}
 use native.Mathlib.Omega.{arith}
@@ -16,7 +16,9 @@ all s =
     refreshOn (take (s .args .n) (s .args .up)) (searchesIn (s .args .head .now) (s .args .searches .now)) (namesIn (s .args .head .now) (s .args .numbers .now) (s .args .texts .now))
 
 refresh-on-all-requires : tie.Need-refresh-on-all-requires
-refresh-on-all-requires c κs = search needs
+refresh-on-all-requires c κs =
+    let s = c .before .before .before .before .before .before .before in
+    (s .pre .0, s .pre .1, room-as (s .args .outbox .now) 0 (chosen (all s) (c .before .if1 .taken)) (s .pre .2))
 
 same-length : tie.Need-same-length
 same-length c = search needs

@@ -3,9 +3,8 @@ use mathlib.Core.Path.{sym}
 use mathlib.Core.List.{List}
 use Rattle.engine.specs.Records.{Record, allFrom}
 use Rattle.engine.specs.Arrays.{namesIn, searchesIn}
-use Rattle.engine.proofs.Sending.{sent}
+use Rattle.engine.proofs.Sending.{sent, room-as}
 use Rattle.engine.proofs.Answering.{sent-as, sent-nothing, chosen, not-chosen}
-use Rattle.engine.proofs.TableRuns.{all-room}
 use borrow.Author.Needs.{needs}
 use Rattle.engine.proofs.send.send_if_stored.Statement.{statement}
 use Rattle.engine.proofs.send.send_if_stored.Tie as tie
@@ -16,8 +15,7 @@ all s = allFrom (searchesIn (s .args .head .now) (s .args .searches .now)) (name
 send-all-requires : tie.Need-send-all-requires
 send-all-requires c κs =
     let s = c .before .before .before .before .before .before .before in
-    let a = s .args in
-    (s .pre .0, s .pre .1, all-room (a .outbox .now) (s .pre .2) (a .head .now) (a .searches .now) (a .numbers .now) (a .texts .now) (a .address))
+    (s .pre .0, s .pre .1, room-as (s .args .outbox .now) 0 (chosen (all s) (c .before .if1 .taken)) (s .pre .2))
 
 same-length : tie.Need-same-length
 same-length c = search needs

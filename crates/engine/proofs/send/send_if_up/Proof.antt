@@ -1,19 +1,14 @@
 -- There is room for what the addresses of a link get.
-use mathlib.Core.Path.{_≡_, sym}
+use mathlib.Core.Path.{sym}
 use mathlib.Core.List.{List}
-use lib.ListN.{length, take}
-use Rattle.engine.specs.Sizes.{addressesMax}
+use lib.ListN.{take}
 use Rattle.engine.specs.Records.{Record, flat, allFrom}
 use Rattle.engine.specs.Arrays.{namesIn, searchesIn}
-use Rattle.engine.proofs.Sending.{sent}
+use Rattle.engine.proofs.Sending.{sent, room-as}
 use Rattle.engine.proofs.Answering.{sent-as, sent-nothing, chosen, not-chosen}
-use Rattle.engine.proofs.TableRuns.{turn-room}
 use borrow.Author.Needs.{needs}
 use Rattle.engine.proofs.send.send_if_up.Statement.{statement}
 use Rattle.engine.proofs.send.send_if_up.Tie as tie
-
-size : (s : tie.Start) → length (s .args .addresses) ≡ addressesMax
-size s = s .good .1 .1 .0 .1 .0 .1
 
 abbrev all : tie.Start → List Record
 all s =
@@ -22,8 +17,7 @@ all s =
 send-all-in-turn-requires : tie.Need-send-all-in-turn-requires
 send-all-in-turn-requires c κs =
     let s = c .before .before .before .before .before .before .before in
-    let a = s .args in
-    (s .pre .0, s .pre .1, turn-room (a .outbox .now) (s .pre .2) (a .head .now) (a .searches .now) (a .numbers .now) (a .texts .now) (a .addresses) (a .n) (size s))
+    (s .pre .0, s .pre .1, room-as (s .args .outbox .now) 0 (chosen (all s) (c .before .if1 .taken)) (s .pre .2))
 
 same-length : tie.Need-same-length
 same-length c = search needs

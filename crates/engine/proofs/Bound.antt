@@ -1,19 +1,29 @@
 -- No call sends more than `recordsMax` records (document 01, 'Outbox'), whatever it is, on tables that are within their sizes:
 -- a salvo of all names and searches on all addresses, and a reply to the group for every name on as many.
+use mathlib.Core.Path.{_≡_, ap}
 use mathlib.Core.Bool.{Bool, true, false, cond, _&&_}
 use mathlib.Core.List.{List, [], _∷_, map}
-use Prim.Native.Nat.{ℕ, _*_, _≤_}
+use Prim.Native.Nat.{ℕ, zero, suc, _*_, _≤_}
 use native.Mathlib.Omega.{arith}
-use lib.ListN.{length, length-append, length-map}
-use Rattle.engine.specs.Sizes.{advertisementsMax, subscriptionsMax, linksMax, addressesMax, sourcesMax, recordsMax, recordSize, outboxSize}
+use borrow.Author.Tests.{ltb-false}
+use lib.Dec.{ltb}
+use lib.ListN.{length, take, drop, getD, length-append, length-map, length-take}
+use Rattle.engine.specs.Sizes.{advertisementsMax, subscriptionsMax, linksMax, addressesMax, sourcesMax, recordsMax, outboxSize}
 use Rattle.engine.specs.Table.{entryOf}
 use Rattle.engine.specs.Held.{Text, Link, Context, Advertisement, advertised, byIndex}
 use Rattle.engine.specs.Calls.{Call, NewLink, DeletedLink, NewAddress, DeletedAddress, Subscribe, Advertise, Deadvertise, Refresh, Datagram, Timeout, ResetTimer}
 use Rattle.engine.specs.Links.{addressesOf, anyUp, upAddresses, addressOf, linkAt, stores}
 use Rattle.engine.specs.Records.{Record, SearchFrom, NotifyFrom, flat, byebyeOn, allFrom, refreshRecords, addressRecords, salvoDue, turnsUp, records}
-use Rattle.engine.proofs.Members.{Each, both}
+use Rattle.engine.specs.Layout.{Room}
+use Rattle.engine.specs.Engine.{need}
+use Rattle.engine.specs.Rows.{rows}
+use Rattle.engine.specs.Arrays.{low32, firstAddress, linkWidth, linkIn, linkRows, linkCount, linksIn, Engine, held}
+use Rattle.engine.proofs.Members.{Each, nobody, both}
 use Rattle.engine.proofs.Flat.{flat-most}
+use Rattle.engine.proofs.TableRows.{lines-length}
+use Rattle.engine.proofs.NameRows.{names-length}
+use Rattle.engine.proofs.TableRuns.{searches-length}
 use Rattle.engine.proofs.Counting.{cond-most, all-most, turn-most, refresh-most, timeout-most}
 
 -- tables within their sizes
 pub record Few (x : Context) (as′ : List Advertisement) : Type 0 where
@@ -82,6 +92,27 @@ module _ (x : Context) (as′ : List Advertisement) (few : Few x as′) where
   records-bound (Timeout now room) = timeout-most (x .subscriptions) as′ (few .subscriptions) (few .names) up up-most (salvoDue x now) now
   records-bound (ResetTimer now) = omega arith
 
-  -- so they fit in the outbox that a host lends
-  pub records-fit : (c : Call) → recordSize * length (records x as′ c) ≤ outboxSize
-  records-fit c = omega (arith, records-bound c)
+-- ---- the tables in the lent arrays are within their sizes, whatever the arrays hold
+link-few : (r : List ℕ) → length (linkIn r .addresses) ≤ addressesMax
+unfolding linkIn
+link-few r = omega (arith, length-map (take (getD r 2 0) (take addressesMax (drop firstAddress r))) low32, length-take (getD r 2 0) (take addressesMax (drop firstAddress r)), length-take addressesMax (drop firstAddress r))
+
+links-few : (n : ℕ) (links : List ℕ) → Each (λ l. length (l .addresses) ≤ addressesMax) (linkRows n links)
+unfolding rows
+links-few zero links = nobody
+links-few (suc n) links = both (link-few (take linkWidth links)) (links-few n (drop linkWidth links))
+
+pub held-few : (t : Engine) → Few (held t .context) (held t .advertisements)
+unfolding held linksIn
+held-few t = record {
+  names = omega (arith, names-length (t .head) (t .numbers) (t .texts));
+  subscriptions = omega (arith, searches-length (t .head) (t .searches));
+  links = omega (arith, lines-length linkWidth linkIn (linkCount (t .head)) (t .links));
+  addresses = links-few (linkCount (t .head)) (t .links);
+}
+
+-- ---- the outbox of an accepted call has room for its records
+pub enough : (t : Engine) (c : Call) (outbox : List ℕ) {rs : List Record} → ltb (length outbox) (need (held t .context) (held t .advertisements) c) ≡ false →
+    rs ≡ records (held t .context) (held t .advertisements) c → Room outbox 0 rs
+enough t c outbox e p =
+    omega (arith, ltb-false (length outbox) outboxSize e, records-bound (held t .context) (held t .advertisements) (held-few t) c, ap length p)

@@ -46,7 +46,7 @@ time = UpTo max64
 
 -- the most bytes that an `outbox` line can lend
 abbrev pub outboxMax : ℕ
-outboxMax = 65536
+outboxMax = 300000
 
 abbrev pub rowOf : Word → Row
 rowOf word.Unknown = record { word = bytes ""; forms = []; gives = Unreadable }

@@ -11,7 +11,7 @@ ghost use Rattle.text.specs.Bytes.{equal};
 ghost use Rattle.console.specs.Command.{rowOf, sessionWords, traceWords, wordIn, u16In, u32In, u64In, partIn, isReadable, readsAs, command, formsOf, dataAt, built, readable};
 
 // The most bytes that an `outbox` line can lend.
-pub const OUTBOX_MAX: u64 = 65536;
+pub const OUTBOX_MAX: usize = 300000;
 
 // The first field of a line.
 pub enum Word {
@@ -158,7 +158,7 @@ fn forms_of(word: Word) -> Forms
         Word::Deadvertise => five(Form::Text, none, none, none, none),
         Word::Refresh => five(none, none, none, none, none),
         Word::Reset => five(time, none, none, none, none),
-        Word::Outbox => five(Form::Number(OUTBOX_MAX), none, none, none, none),
+        Word::Outbox => five(Form::Number(OUTBOX_MAX as u64), none, none, none, none),
         Word::Hexdata => five(
             time,
             Form::Address,

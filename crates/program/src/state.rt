@@ -1,4 +1,5 @@
 // What the program holds from step to step, besides the engine's arrays, the outbox and the line under way.
+use console::command::OUTBOX_MAX;
 use console::input::LINE_MAX;
 use dialogue::session::Reply;
 use engine::sizes::OUTBOX_SIZE;
@@ -6,6 +7,7 @@ ghost use mathlib.Core.Path.{_≡_};
 ghost use mathlib.Core.Bool.{false, cond};
 ghost use lib.ListN.{length};
 ghost use Prim.Native.Nat.{_+_};
+ghost use Rattle.console.specs.Command.{outboxMax};
 ghost use Rattle.console.specs.Input.{lineMax};
 ghost use Rattle.program.specs.Program.{firstLent};
 ghost use Rattle.program.specs.Steps.{replied, holding};
@@ -47,6 +49,13 @@ pub fn no_line() -> [u8; LINE_SIZE]
     ensures { λ r. ⌜ length r ≡ lineMax + 2 ⌝ }
 {
     [0; LINE_SIZE]
+}
+
+// Room for all that an `outbox` line can lend.
+pub fn no_outbox() -> [u8; OUTBOX_MAX]
+    ensures { λ r. ⌜ length r ≡ outboxMax ⌝ }
+{
+    [0; OUTBOX_MAX]
 }
 
 // Of a line so much is held.

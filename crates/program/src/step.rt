@@ -89,7 +89,7 @@ const PIECE_MAX: usize = 4096;
 fn fits(outbox: &[u8], out: &[u8]) -> bool
     ensures { λ r. ⌜ r ≡ eqb (length (now (outbox .entry))) outboxMax && leb pieceMax (length (now (out .entry))) ⌝ }
 {
-    (outbox.len() as u64 == OUTBOX_MAX) & (PIECE_MAX <= out.len())
+    (outbox.len() == OUTBOX_MAX) & (PIECE_MAX <= out.len())
 }
 
 // A step that is lent too little does nothing.

@@ -172,7 +172,7 @@ pub fn run(traced: bool) {
     let mut searches = no_searches();
     let mut numbers = no_numbers();
     let mut texts = no_texts();
-    let mut outbox = io::large_buffer();
+    let mut outbox = state::no_outbox();
     let mut line = state::no_line();
     let mut out = io::buffer();
     let last = read_all(

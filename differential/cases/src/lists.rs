@@ -253,7 +253,7 @@ impl List {
 
     fn trace_line(&mut self) -> Vec<u8> {
         match self.dice.below(4) {
-            0 => format!("outbox\t{}", self.dice.pick(&[OUTBOX, OUTBOX, OUTBOX + 1, 65_536, OUTBOX - 1, 0, 65_537])).into(),
+            0 => format!("outbox\t{}", self.dice.pick(&[OUTBOX, OUTBOX, OUTBOX + 1, 300_000, OUTBOX - 1, 0, 300_001])).into(),
             1 => format!("outbox\t{OUTBOX}").into(),
             _ => {
                 let length = self.dice.pick(&[0, 1, 3, 4, 4, 5, 15, 16, 16, 17, 32, 33]);

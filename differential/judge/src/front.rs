@@ -98,7 +98,7 @@ pub fn read(program: Program, line: &[u8]) -> Option<Line> {
 /// The lines that `trace` reads besides the session's.
 fn trace_line(fields: &[&[u8]]) -> Option<Line> {
     Some(match *fields {
-        [b"outbox", lent] => Line::Outbox(number(lent, 65_536)? as usize),
+        [b"outbox", lent] => Line::Outbox(number(lent, 300_000)? as usize),
         [b"hexdata", now, from, port, to, hex] => Line::Call(data(now, from, port, to, unhex(hex, 2000)?)?),
         [b"hexaddr", index, hex] => Line::Call(Call::Addr { index: u32_of(index)?, address: unhex(hex, 32)? }),
         [b"hexdeladdr", index, hex] => Line::Call(Call::DelAddr { index: u32_of(index)?, address: unhex(hex, 32)? }),

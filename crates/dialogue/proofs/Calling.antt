@@ -1,6 +1,6 @@
 -- Laws of calls that a line asks for: the same call under other names of its arguments, and what a reply promises.
 use mathlib.Core.Path.{_≡_, refl, sym, _∙_, ap, subst}
-use mathlib.Core.Bool.{Bool, true, false}
+use mathlib.Core.Bool.{Bool, true}
 use mathlib.Core.List.{List, [], _∷_, _++_}
 use Prim.Native.Nat.{ℕ}
 use lib.ListN.{length, take, drop}
@@ -14,31 +14,28 @@ use Rattle.engine.specs.Arrays.{Engine}
 use Rattle.engine.specs.Promises.{answered, Answers}
 use Rattle.engine.specs.declared.answer.Answer.{Answer}
 use Rattle.console.specs.declared.command.Command.{Command}
-use Rattle.console.specs.declared.command.Command.the-variants as line
-use Rattle.dialogue.specs.Asking.{Asked, asked}
-use Rattle.dialogue.specs.Obeying.{Unheard, Called, Outcome, Obeys}
+use Rattle.dialogue.specs.Asking.{Asked, Of, asked}
+use Rattle.dialogue.specs.Obeying.{Answered, Outcome, Obeys}
 use Rattle.dialogue.specs.declared.session.Reply.{Reply}
 
-pub as-call : {t t′ : Engine} {c c′ : Call} {o o′ : List ℕ} {r : Answer} → Answers t c o o′ (answered t′ r) → c ≡ c′ → Answers t c′ o o′ (answered t′ r)
-as-call {t} {t′} {c} {c′} {o} {o′} {r} a p = subst (λ (x : Call). Answers t x o o′ (answered t′ r)) p a
-
-pub same-texts : {a a′ b b′ c c′ : List ℕ} (room : ℕ) → a ≡ a′ → b ≡ b′ → c ≡ c′ → Advertise a b c room ≡ Advertise a′ b′ c′ room
+-- the same call under other names of its arguments
+pub same-texts : {a a′ b b′ c c′ : List ℕ} (room : ℕ) → a ≡ a′ → b ≡ b′ → c ≡ c′ → Of (Advertise a b c room) ≡ Of (Advertise a′ b′ c′ room)
 same-texts {a} {a′} {b} {b′} {c} {c′} room p q r =
-    ap (λ (x : List ℕ). Advertise x b c room) p ∙ ap (λ (x : List ℕ). Advertise a′ x c room) q ∙ ap (λ (x : List ℕ). Advertise a′ b′ x room) r
+    ap (λ (x : List ℕ). Of (Advertise x b c room)) p ∙ ap (λ (x : List ℕ). Of (Advertise a′ x c room)) q ∙ ap (λ (x : List ℕ). Of (Advertise a′ b′ x room)) r
 
-pub same-datagram : {time receiver : ℕ} {from from′ : Endpoint} {d d′ : List ℕ} → from ≡ from′ → d ≡ d′ → Datagram time from receiver d ≡ Datagram time from′ receiver d′
+pub same-datagram : {time receiver : ℕ} {from from′ : Endpoint} {d d′ : List ℕ} → from ≡ from′ → d ≡ d′ → Of (Datagram time from receiver d) ≡ Of (Datagram time from′ receiver d′)
 same-datagram {time} {receiver} {from} {from′} {d} {d′} p q =
-    ap (λ (x : Endpoint). Datagram time x receiver d) p ∙ ap (Datagram time from′ receiver) q
+    ap (λ (x : Endpoint). Of (Datagram time x receiver d)) p ∙ ap (λ (x : List ℕ). Of (Datagram time from′ receiver x)) q
 
-pub same-new : {index room : ℕ} {d d′ : List ℕ} → d ≡ d′ → NewAddress index d room ≡ NewAddress index d′ room
-same-new {index} {room} p = ap (λ (x : List ℕ). NewAddress index x room) p
+pub same-new : {index room : ℕ} {d d′ : List ℕ} → d ≡ d′ → Of (NewAddress index d room) ≡ Of (NewAddress index d′ room)
+same-new {index} {room} p = ap (λ (x : List ℕ). Of (NewAddress index x room)) p
 
-pub same-deleted : {index : ℕ} {d d′ : List ℕ} → d ≡ d′ → DeletedAddress index d ≡ DeletedAddress index d′
-same-deleted {index} p = ap (DeletedAddress index) p
+pub same-deleted : {index : ℕ} {d d′ : List ℕ} → d ≡ d′ → Of (DeletedAddress index d) ≡ Of (DeletedAddress index d′)
+same-deleted {index} p = ap (λ (x : List ℕ). Of (DeletedAddress index x)) p
 
--- the front of a buffer that was filled
-pub front-of : {text buffer front : List ℕ} {n room : ℕ} → front ≡ take n buffer → Filled text buffer n → length buffer ≡ room → front ≡ take room text
-front-of {text} f g h = f ∙ g .front ∙ ap (λ (k : ℕ). take k text) h
+-- the front of a buffer that was filled with what a part of the line is read as
+pub front-of : (read : List ℕ → List ℕ) (room : ℕ) {text part buffer front : List ℕ} {n : ℕ} → front ≡ take n buffer → Filled (read text) buffer n → length buffer ≡ room → text ≡ part → front ≡ take room (read part)
+front-of read room {text} f g h p = f ∙ g .front ∙ ap (λ (k : ℕ). take k (read text)) h ∙ ap (λ (x : List ℕ). take room (read x)) p
 
 nothing-in-front : (a b : List ℕ) → [] ≡ a ++ b → a ≡ []
 nothing-in-front [] b p = refl
@@ -52,14 +49,18 @@ written-nothing rs o p = rw (nothing-in-front (layout rs) (drop (length (layout 
 pub lent-none : {t t′ : Engine} {c : Call} {r : Answer} (o : List ℕ) → Answers t c [] [] (answered t′ r) → Answers t c o o (answered t′ r)
 lent-none o a = record { answer = a .answer; engine = a .engine; sent = written-nothing _ o (a .sent); untouched = a .untouched }
 
+-- the command is this one, which asks this call
+pub asks : (s : List ℕ) (room : ℕ) {k v : Command} {c : Call} {t t′ : Engine} {o o′ : List ℕ} {a : Answer} →
+    k ≡ v → Of c ≡ asked s room v → Answers t c o o′ (answered t′ a) → Answered (asked s room k) t o o′ t′ a
+asks s room {k} {v} {c} p q a = record { call = c; asks = ap (asked s room) p ∙ sym q; answers = a }
+
 -- a call was made, and its answer is the reply's
-pub called : {t t′ : Engine} {c : Call} {o o′ : List ℕ} {a : Answer} {r : Reply} → Answers t c o o′ (answered t′ a) →
-    (r .begun ≡ true) × (r .heard ≡ true) × (r .answer ≡ a) → Called t c o o′ t′ r
-called a (begun, heard, answer) = record {
-  answers = record { answer = answer ∙ a .answer; engine = a .engine; sent = a .sent; untouched = a .untouched };
-  begun = begun;
-  heard = heard;
-}
+pub called : {x : Asked} {t t′ : Engine} {o o′ : List ℕ} {a : Answer} {r : Reply} → Answered x t o o′ t′ a →
+    (r .begun ≡ true) × (r .heard ≡ true) × (r .answer ≡ a) → Obeys true x t o o′ t′ r
+called {x} {t} {t′} {o} {o′} {a} {r} u (begun, heard, answer) =
+    let w = u .answers in
+    subst (λ (y : Asked). Obeys true y t o o′ t′ r) (sym (u .asks))
+    (record { outcome = record { answers = record { answer = answer ∙ w .answer; engine = w .engine; sent = w .sent; untouched = w .untouched }; begun = begun; heard = heard } })
 
 -- the command is this one, which asks this
 pub obeyed : (s : List ℕ) (room : ℕ) {k v : Command} {x : Asked} {b : Bool} {t t′ : Engine} {o o′ : List ℕ} {r : Reply} →
@@ -69,25 +70,3 @@ obeyed s room {k} {v} {x} {b} {t} {t′} {o} {o′} {r} p q u = subst (λ (y : A
 -- an engine has begun, or not
 pub begun-as : {b b′ : Bool} {x : Asked} {t t′ : Engine} {o o′ : List ℕ} {r : Reply} → b ≡ b′ → Obeys b′ x t o o′ t′ r → Obeys b x t o o′ t′ r
 begun-as {b} {b′} {x} {t} {t′} {o} {o′} {r} p u = subst (λ (y : Bool). Obeys y x t o o′ t′ r) (sym p) u
-
--- before an engine has begun only `new` is heard
-pub first-unheard : (k : Command) → ((seed time : ℕ) → k ≡ line.New seed time → ⊥) → (s : List ℕ) (room : ℕ) {t t′ : Engine} {o o′ : List ℕ} {r : Reply} →
-    Unheard false t o o′ t′ r → Obeys false (asked s room k) t o o′ t′ r
-unfolding asked
-first-unheard line.Unreadable neither s room u = record { outcome = u }
-first-unheard (line.New seed time) neither s room u = absurd (neither seed time refl)
-first-unheard (line.NewLink index flags outcome) neither s room u = record { outcome = u }
-first-unheard (line.DeletedLink index outcome) neither s room u = record { outcome = u }
-first-unheard (line.NewAddress index address) neither s room u = record { outcome = u }
-first-unheard (line.DeletedAddress index address) neither s room u = record { outcome = u }
-first-unheard (line.Subscribe service) neither s room u = record { outcome = u }
-first-unheard (line.Advertise name service location) neither s room u = record { outcome = u }
-first-unheard (line.Deadvertise name) neither s room u = record { outcome = u }
-first-unheard line.Refresh neither s room u = record { outcome = u }
-first-unheard (line.Datagram time sender port receiver text) neither s room u = record { outcome = u }
-first-unheard (line.Timeout time) neither s room u = record { outcome = u }
-first-unheard (line.Reset time) neither s room u = record { outcome = u }
-first-unheard (line.Lend size) neither s room u = record { outcome = u }
-first-unheard (line.HexDatagram time sender port receiver digits) neither s room u = record { outcome = u }
-first-unheard (line.NewHexAddress index digits) neither s room u = record { outcome = u }
-first-unheard (line.DeletedHexAddress index digits) neither s room u = record { outcome = u }

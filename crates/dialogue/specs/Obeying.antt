@@ -7,6 +7,7 @@ use lib.Dec.{eqb}
 use Rattle.engine.specs.Calls.{Call}
 use Rattle.engine.specs.Arrays.{Engine}
 use Rattle.engine.specs.Promises.{answered, Answers, Begins}
+use Rattle.engine.specs.declared.answer.Answer.{Answer}
 use Rattle.dialogue.specs.Asking.{Asked, Nothing, Begin, Lend, Of}
 use Rattle.dialogue.specs.declared.session.Reply.{Reply}
 
@@ -28,6 +29,12 @@ pub record Called (e : Engine) (c : Call) (outbox outbox′ : List ℕ) (e′ : 
   pub answers : Answers e c outbox outbox′ (answered e′ (r .answer))
   pub begun : r .begun ≡ true
   pub heard : r .heard ≡ true
+
+-- the line asks a call, and this is its answer
+pub record Answered (x : Asked) (e : Engine) (outbox outbox′ : List ℕ) (e′ : Engine) (a : Answer) : Type 0 where
+  pub call : Call
+  pub asks : x ≡ Of call
+  pub answers : Answers e call outbox outbox′ (answered e′ a)
 
 -- whether an engine has begun, and what the line asks; what is lent is no matter of the engine
 abbrev pub Outcome : Bool → Asked → Engine → List ℕ → List ℕ → Engine → Reply → Type 0

@@ -1,6 +1,6 @@
 // What a line of the programs `session` and `trace` asks of the engine, and what is printed of it: document 01, 'The session program'.
 // Reading and writing standard streams is in crate `terminal`.
 pub mod answer;
-mod ask;
+mod call;
 pub mod record;
 pub mod session;

@@ -1,8 +1,6 @@
 // One line after the other: what a line does to the engine in its lent arrays. Whether an engine has begun is held beside them.
-use crate::ask;
+use crate::call;
 use console::command::Command;
-use console::part::part_of;
-use engine::advertisement::Endpoint;
 use engine::answer::Answer;
 use engine::calls;
 use engine::sizes::Head;
@@ -26,23 +24,6 @@ pub struct Reply {
     pub answer: Answer,
 }
 
-fn no_answer() -> Answer {
-    Answer {
-        refusal: 0,
-        records: 0,
-        matched: 0,
-        joined: 0,
-        alone: 0,
-        group: 0,
-        dropped: 0,
-        waiting: 0,
-        poll: 0,
-        mask: 0,
-        told: 0,
-        leave: 0,
-    }
-}
-
 // A line that is not heard.
 fn unheard(begun: bool) -> Reply
     ensures { λ r. ⌜ (r .begun ≡ begun) × (r .heard ≡ false) ⌝ }
@@ -50,7 +31,7 @@ fn unheard(begun: bool) -> Reply
     Reply {
         begun: begun,
         heard: false,
-        answer: no_answer(),
+        answer: call::no_answer(),
     }
 }
 
@@ -83,16 +64,6 @@ fn obey_first(head: &mut Head, numbers: &Numbers, command: Command) -> Reply
     begin(head, numbers, seed, time)
 }
 
-// Where a datagram came from.
-fn at(address: u32, port: u16) -> Endpoint
-    ensures { λ r. ⌜ r ≡ record { address = address; port = port } ⌝ }
-{
-    Endpoint {
-        address: address,
-        port: port,
-    }
-}
-
 // A line after it: a call of the engine, or nothing that is heard.
 fn obey_next(
     head: &mut Head,
@@ -107,123 +78,27 @@ fn obey_next(
     ensures { λ r. ⌜ Obeys true (asked (now (line .entry)) (length (now (outbox .entry))) command) (engine (now (head .entry)) (now (links .entry)) (now (searches .entry)) (now (numbers .entry)) (now (texts .entry))) (now (outbox .entry)) (now (outbox .exit)) (engine (now (head .exit)) (now (links .exit)) (now (searches .exit)) (now (numbers .exit)) (now (texts .exit))) r ⌝ }
 {
     match command {
-        Command::Unreadable => unheard(true),
-        Command::New(_, _) => unheard(true),
-        Command::Lend(_) => unheard(true),
-        Command::NewLink(index, flags, outcome) => heard(
-            calls::new_link(
-                head,
-                links,
-                searches,
-                numbers,
-                texts,
-                index,
-                flags,
-                outcome,
-                outbox,
-            ),
+        Command::Unreadable | Command::New(_, _) | Command::Lend(_) => unheard(true),
+        Command::NewLink(_, _, _) | Command::DeletedLink(_, _) => heard(
+            call::of_link(head, links, searches, numbers, texts, command, outbox),
             true,
         ),
-        Command::DeletedLink(index, outcome) => heard(
-            calls::deleted_link(head, links, numbers, index, outcome),
+        Command::NewAddress(_, _)
+        | Command::DeletedAddress(_, _)
+        | Command::NewHexAddress(_, _)
+        | Command::DeletedHexAddress(_, _) => heard(
+            call::of_address(head, links, searches, numbers, texts, line, command, outbox),
             true,
         ),
-        Command::NewAddress(index, address) => heard(
-            ask::new_address(
-                head,
-                links,
-                searches,
-                numbers,
-                texts,
-                index,
-                address,
-                outbox,
-            ),
+        Command::Subscribe(_)
+        | Command::Advertise(_, _, _)
+        | Command::Deadvertise(_)
+        | Command::Refresh => heard(
+            call::of_service(head, links, searches, numbers, texts, line, command, outbox),
             true,
         ),
-        Command::DeletedAddress(index, address) => heard(
-            ask::deleted_address(head, links, numbers, index, address),
-            true,
-        ),
-        Command::Subscribe(service) => heard(
-            calls::subscribe(
-                head,
-                links,
-                searches,
-                numbers,
-                part_of(line, service),
-                outbox,
-            ),
-            true,
-        ),
-        Command::Advertise(name, service, location) => heard(
-            ask::advertise(
-                head,
-                links,
-                numbers,
-                texts,
-                line,
-                name,
-                service,
-                location,
-                outbox,
-            ),
-            true,
-        ),
-        Command::Deadvertise(name) => heard(
-            calls::deadvertise(head, links, numbers, texts, part_of(line, name), outbox),
-            true,
-        ),
-        Command::Refresh => heard(
-            calls::refresh(head, links, searches, numbers, texts, outbox),
-            true,
-        ),
-        Command::Datagram(time, sender, port, receiver, text) => heard(
-            ask::on_text(
-                head,
-                searches,
-                numbers,
-                texts,
-                time,
-                at(sender, port),
-                receiver,
-                part_of(line, text),
-            ),
-            true,
-        ),
-        Command::Timeout(time) => heard(
-            calls::handle_timeout(head, links, searches, numbers, texts, time, outbox),
-            true,
-        ),
-        Command::Reset(time) => heard(calls::reset_refresh_timer(head, numbers, time), true),
-        Command::HexDatagram(time, sender, port, receiver, digits) => heard(
-            ask::on_bytes(
-                head,
-                searches,
-                numbers,
-                texts,
-                time,
-                at(sender, port),
-                receiver,
-                part_of(line, digits),
-            ),
-            true,
-        ),
-        Command::NewHexAddress(index, digits) => heard(
-            ask::new_address_bytes(
-                head,
-                links,
-                searches,
-                numbers,
-                texts,
-                index,
-                part_of(line, digits),
-                outbox,
-            ),
-            true,
-        ),
-        Command::DeletedHexAddress(index, digits) => heard(
-            ask::deleted_address_bytes(head, links, numbers, index, part_of(line, digits)),
+        _ => heard(
+            call::of_time(head, links, searches, numbers, texts, line, command, outbox),
             true,
         ),
     }

@@ -1,12 +1,13 @@
 -- Laws of what a line gives: the engine's reply as it is printed, and the session after it.
 use mathlib.Core.Path.{_≡_, refl, sym, _∙_, ap, subst}
 use mathlib.Core.Bool.{Bool, true, false, cond, _&&_}
-use mathlib.Core.List.{List, [], _++_, append-assoc, append-nil}
-use Prim.Native.Nat.{ℕ, _+_, _-_, min, _≤_, _<_}
+use mathlib.Core.List.{List, [], _∷_, _++_, append-assoc, append-nil}
+use Prim.Native.Nat.{ℕ, _+_, _-_, min}
 use native.Mathlib.Omega.{arith}
 use lib.Dec.{eqb}
-use lib.ListN.{length, take, replicate, length-take, length-replicate}
-use lib.Seq.{take-all, take-at}
+use lib.ListN.{length, take, drop, replicate, length-take, length-drop, length-append, length-replicate}
+use lib.Seq.{take-at}
+use types.Run.{OneOf}
 use Rattle.text.specs.Bytes.{bytes}
 use Rattle.console.specs.Input.{Text, Unheard as TooLong}
 use Rattle.console.specs.declared.command.Command.{Command}
@@ -18,35 +19,25 @@ use Rattle.engine.specs.Arrays.{Engine, held}
 use Rattle.engine.specs.Engine.{step, newStep}
 use Rattle.engine.specs.Refusals.{newRefusal}
 use Rattle.engine.specs.declared.answer.Answer.{Answer}
+use Rattle.engine.proofs.Slots.{clamped}
 use Rattle.dialogue.specs.Asking.{Asked, Nothing, Begin, Lend, Of, asked}
 use Rattle.dialogue.specs.Obeying.{Unheard, Begun, Called, Outcome, Obeys}
 use Rattle.dialogue.specs.Printing.{answerLine, newsLine}
+use Rattle.dialogue.specs.Subjects.{Among}
 use Rattle.dialogue.specs.Outbox.{mark}
 use Rattle.dialogue.specs.declared.session.Reply.{Reply}
+use Rattle.dialogue.proofs.Commands.{but, never, by-number}
 use Rattle.program.specs.Program.{Session, Before, Running, Given, firstLent, unread, recordLines, stain, told, gives, reply, commandOf, lentIn}
 use Rattle.program.specs.Steps.{sessionOf, sessionIn, due, Gives, replyText, replied, marked, lends}
 use Rattle.program.specs.declared.state.State.{State}
 
 -- no command but `outbox` asks to lend
-pub lends-not : (k : Command) → ((n : ℕ) → k ≡ line.Lend n → ⊥) → (s : List ℕ) (room : ℕ) → lends (asked s room k) ≡ false
-unfolding asked
-lends-not line.Unreadable neither s room = refl
-lends-not (line.New seed time) neither s room = refl
-lends-not (line.NewLink index flags outcome) neither s room = refl
-lends-not (line.DeletedLink index outcome) neither s room = refl
-lends-not (line.NewAddress index address) neither s room = refl
-lends-not (line.DeletedAddress index address) neither s room = refl
-lends-not (line.Subscribe service) neither s room = refl
-lends-not (line.Advertise name service location) neither s room = refl
-lends-not (line.Deadvertise name) neither s room = refl
-lends-not line.Refresh neither s room = refl
-lends-not (line.Datagram time sender port receiver text) neither s room = refl
-lends-not (line.Timeout time) neither s room = refl
-lends-not (line.Reset time) neither s room = refl
-lends-not (line.Lend size) neither s room = absurd (neither size refl)
-lends-not (line.HexDatagram time sender port receiver digits) neither s room = refl
-lends-not (line.NewHexAddress index digits) neither s room = refl
-lends-not (line.DeletedHexAddress index digits) neither s room = refl
+abbrev pub lendLines : List ℕ
+lendLines = 13 ∷ []
+
+pub lends-not : (k : Command) → Among (but lendLines) k → (s : List ℕ) (room : ℕ) → lends (asked s room k) ≡ false
+lends-not k i s room =
+    by-number (λ n x. OneOf (but lendLines) n → lends x ≡ false) (λ i. refl) (λ seed time i. refl) (λ n i. absurd (never 13 lendLines refl i)) (λ n c h i. refl) s room k i
 
 -- what is lent in a session
 pub lent-in : (begun : Bool) (lent : ℕ) (e : Engine) {n : ℕ} → n ≡ outboxMax → min (cond begun lent 0) n ≡ lentIn (sessionOf begun lent e)
@@ -238,26 +229,18 @@ pub obeys-marked : (traced : Bool) (l : List ℕ) (k : Command) (o : List ℕ) {
 obeys-marked traced l k o {b} {e} {e′} {o₁} {o′} {r} p u =
     subst (λ (n : ℕ). Obeys b (asked l n k) e (marked traced o) o′ e′ r) (marked-length traced o) (subst (λ (x : List ℕ). Obeys b (asked l (length x) k) e x o′ e′ r) p u)
 
--- all of the outbox is lent, or its front
-pub obeys-all : (traced : Bool) (l : List ℕ) (k : Command) (o : List ℕ) (room : ℕ) {b : Bool} {e e′ : Engine} {o′ : List ℕ} {r : Reply} → length o ≤ room → length o′ ≡ length o
-    → Obeys b (asked l (length o) k) e (marked traced o) o′ e′ r → Obeys b (asked l (min room (length o)) k) e (marked traced (take room o)) (take room o′) e′ r
-obeys-all traced l k o room {b} {e} {e′} {o′} {r} h same u =
-    let n : length o ≡ min room (length o) = omega arith in
-    let at-entry : o ≡ take room o = sym (take-all room o h) in
-    let at-exit : o′ ≡ take room o′ = sym (take-all room o′ (omega (arith, same))) in
-    subst (λ (x : ℕ). Obeys b (asked l x k) e (marked traced (take room o)) (take room o′) e′ r) n
-    (subst (λ (x : List ℕ). Obeys b (asked l (length o) k) e (marked traced x) (take room o′) e′ r) at-entry
-    (subst (λ (x : List ℕ). Obeys b (asked l (length o) k) e (marked traced o) x e′ r) at-exit u))
-
-pub obeys-front : (traced : Bool) (l : List ℕ) (k : Command) (o : List ℕ) (room n : ℕ) {b : Bool} {e e′ : Engine} {d : List ℕ} (rest : List ℕ) {r : Reply} → n ≡ room → room < length o → length d ≡ length (take n o)
+-- as much of the outbox is lent as there is
+pub obeys-lent : (traced : Bool) (l : List ℕ) (k : Command) (o : List ℕ) (room n : ℕ) {b : Bool} {e e′ : Engine} {d : List ℕ} {r : Reply} → n ≡ min room (length o) → length d ≡ length (take n o)
     → Obeys b (asked l (length (take n o)) k) e (marked traced (take n o)) d e′ r
-    → Obeys b (asked l (min room (length o)) k) e (marked traced (take room o)) (take room (d ++ rest)) e′ r
-obeys-front traced l k o room n {b} {e} {e′} {d} rest {r} p h same u =
-    let m : length (take n o) ≡ min room (length o) = length-take n o ∙ ap (λ (x : ℕ). min x (length o)) p in
-    let whole : d ≡ take room (d ++ rest) = sym (take-at d rest room (same ∙ length-take n o ∙ omega (arith, p))) in
-    subst (λ (x : ℕ). Obeys b (asked l x k) e (marked traced (take room o)) (take room (d ++ rest)) e′ r) m
-    (subst (λ (x : ℕ). Obeys b (asked l (length (take n o)) k) e (marked traced (take x o)) (take room (d ++ rest)) e′ r) p
-    (subst (λ (x : List ℕ). Obeys b (asked l (length (take n o)) k) e (marked traced (take n o)) x e′ r) whole u))
+    → Obeys b (asked l (min room (length o)) k) e (marked traced (take room o)) (take room (d ++ drop n o)) e′ r
+obeys-lent traced l k o room n {b} {e} {e′} {d} {r} p same u =
+    let size : length (take n o) ≡ n = length-take n o ∙ omega (arith, p) in
+    let front : take n o ≡ take room o = clamped o room n p in
+    let whole : n ≡ min room (length (d ++ drop n o)) = omega (arith, p, same, size, length-append d (drop n o), length-drop n o) in
+    let back : d ≡ take room (d ++ drop n o) = sym (take-at d (drop n o) n (same ∙ size)) ∙ clamped (d ++ drop n o) room n whole in
+    subst (λ (x : ℕ). Obeys b (asked l x k) e (marked traced (take room o)) (take room (d ++ drop n o)) e′ r) (size ∙ p)
+    (subst (λ (x : List ℕ). Obeys b (asked l (length (take n o)) k) e (marked traced x) (take room (d ++ drop n o)) e′ r) front
+    (subst (λ (x : List ℕ). Obeys b (asked l (length (take n o)) k) e (marked traced (take n o)) x e′ r) back u))
 
 -- ---- what is printed of a reply
 pub reply-none : (traced : Bool) (r : Reply) {t : List ℕ} → r .heard ≡ false → t ≡ bytes "?\n" → t ≡ replyText traced r

@@ -88,6 +88,13 @@ fn obey_marked(
     )
 }
 
+// The lesser of two sizes.
+fn least(a: usize, b: usize) -> usize
+    ensures { λ r. ⌜ r ≡ min a b ⌝ }
+{
+    if a < b { a } else { b }
+}
+
 // The same with as much of the outbox as is lent.
 fn obey_lent(
     begun: bool,
@@ -104,20 +111,7 @@ fn obey_lent(
 ) -> Reply
     ensures { λ r. ⌜ Obeys begun (asked (now (line .entry)) (min room (length (now (outbox .entry)))) c) (engine (now (head .entry)) (now (links .entry)) (now (searches .entry)) (now (numbers .entry)) (now (texts .entry))) (marked traced (take room (now (outbox .entry)))) (take room (now (outbox .exit))) (engine (now (head .exit)) (now (links .exit)) (now (searches .exit)) (now (numbers .exit)) (now (texts .exit))) r ⌝ }
 {
-    if outbox.len() <= room {
-        return obey_marked(
-            begun,
-            head,
-            links,
-            searches,
-            numbers,
-            texts,
-            line,
-            c,
-            outbox,
-            traced,
-        );
-    }
+    let lent = least(room, outbox.len());
     obey_marked(
         begun,
         head,
@@ -127,7 +121,7 @@ fn obey_lent(
         texts,
         line,
         c,
-        &mut outbox[0..room],
+        &mut outbox[0..lent],
         traced,
     )
 }

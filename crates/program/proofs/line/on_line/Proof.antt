@@ -1,22 +1,11 @@
 -- `on_line` meets its contract: an `outbox` line, or any other.
-use Prim.Native.Nat.{ℕ}
-use Rattle.console.proofs.command.Command.{the-type}
-use Rattle.console.specs.declared.command.Command.{Command}
 use Rattle.engine.specs.Arrays.{engine}
 use Rattle.program.proofs.Replying.{given-line, given-lent, lends-not}
 use Rattle.program.specs.Program.{lentIn}
 use Rattle.program.specs.Steps.{sessionIn}
 use borrow.Author.Needs.{needs}
-use denote.Enum.Declared.{tagOf}
-use mathlib.Core.List.{List, [], _∷_}
-use mathlib.Core.Path.{subst}
-use types.Run.{OneOf, miss}
 use Rattle.program.proofs.line.on_line.Statement.{statement}
 use Rattle.program.proofs.line.on_line.Tie as tie
-
--- the numbers of all commands but `outbox`
-abbrev others : List ℕ
-others = 0 ∷ 1 ∷ 2 ∷ 3 ∷ 4 ∷ 5 ∷ 6 ∷ 7 ∷ 8 ∷ 9 ∷ 10 ∷ 11 ∷ 12 ∷ 14 ∷ 15 ∷ 16 ∷ []
 
 command-of-requires : tie.Need-command-of-requires
 command-of-requires c κs = search needs
@@ -38,7 +27,7 @@ returns c =
     let a = c .before .before .before .before .before .before .before .before .before .before .before .before .before .before .before .before .before .args in
     let e = (engine (c .before .before .before .before .before .before .before .before .before .before .before .before .before .before .before .before .before .args .head .now) (c .before .before .before .before .before .before .before .before .before .before .before .before .before .before .before .before .before .args .links .now) (c .before .before .before .before .before .before .before .before .before .before .before .before .before .before .before .before .before .args .searches .now) (c .before .before .before .before .before .before .before .before .before .before .before .before .before .before .before .before .before .args .numbers .now) (c .before .before .before .before .before .before .before .before .before .before .before .before .before .before .before .before .before .args .texts .now)) in
     given-line (a .s) (a .line .now) e (c .before .before .before .before .before .before .before .before .before .before .before .before .before .command-of .ensures)
-    (c .before .before .before .before .obey .ensures (lends-not (c .before .before .before .before .before .before .before .before .before .before .before .before .before .command-of .result) (λ n p. miss others 13 tt (subst (λ (k : Command). OneOf others (tagOf the-type k)) p (c .before .before .before .before .before .before .before .before .before .before .before .before .match .keys2))) (a .line .now) (lentIn (sessionIn (a .s) e))))
+    (c .before .before .before .before .obey .ensures (lends-not (c .before .before .before .before .before .before .before .before .before .before .before .before .before .command-of .result) (c .before .before .before .before .before .before .before .before .before .before .before .before .match .keys2) (a .line .now) (lentIn (sessionIn (a .s) e))))
 
 lend-requires : tie.Need-lend-requires
 lend-requires c κs = search needs

@@ -294,13 +294,16 @@ fn replay(
     tally
 }
 
+// As much as a line of the lists may lend.
+const OUTBOX_MAX: usize = 300000;
+
 fn main() {
     let mut head = [0u64; HEAD_PLACES];
     let mut links = [0u64; LINK_NUMBERS];
     let mut searches = [0u8; SEARCH_BYTES];
     let mut numbers = [0u64; NUMBERS_SIZE];
     let mut texts = [0u8; TEXTS_SIZE];
-    let mut outbox = io::large_buffer();
+    let mut outbox = [0u8; OUTBOX_MAX];
     replay(
         &mut head,
         &mut links,

@@ -7,6 +7,7 @@ use native.Mathlib.Omega.{arith}
 use Rattle.text.specs.Bytes.{equal}
 use Rattle.text.proofs.Comparing.{equal-is}
 use Rattle.message.specs.Build.{typeMax, nameMax, buildLocationMax}
+use Rattle.message.specs.Refusals.{textOverSize, textNotGood}
 use Rattle.message.proofs.Sending.{AllFit, none, and, sent-message}
 use Rattle.engine.specs.Sizes.{locationMax}
 use Rattle.engine.specs.Target.{ssdpAll}
@@ -23,7 +24,7 @@ use Rattle.engine.specs.declared.advertisement.ResponseNeeded.{ResponseNeeded}
 use Rattle.engine.specs.declared.advertisement.ResponseNeeded.the-variants.{None, Multicast, Unicast}
 use Rattle.claims.proofs.LeafLaws.{Laws}
 use Rattle.engine.proofs.Members.{Each, nobody, both, each-cond, each-append, each-map, each-flat, each-entry}
-use Rattle.engine.proofs.Accepted.{Passed, passed, Fits, fits-passed, three-fit}
+use Rattle.engine.proofs.Accepted.{Cleared, cleared, Fits, fits-passed, three-fit}
 use Rattle.claims.proofs.Reachable.{AnswerFits, TextsFit, Listed, Subscribed, Reachable}
 
 abbrev pub Built : Record → Type 0
@@ -111,7 +112,7 @@ module _ (laws : Laws) where
     addresses-built [] = nobody
     addresses-built (a ∷ l) = each-append (address-built a) (addresses-built l)
 
-  records-built : (h : Held) (c : Call) → Passed (checks (h .context) (namesOf h c) c) → Reachable h → Each Built (records (h .context) (h .advertisements) c)
+  records-built : (h : Held) (c : Call) → Cleared (checks (h .context) (namesOf h c) c) → Reachable h → Each Built (records (h .context) (h .advertisements) c)
   unfolding checks records
   records-built h (NewLink index flags outcome room) p r =
       each-cond (turnsUp index flags (h .context .links))
@@ -122,9 +123,9 @@ module _ (laws : Laws) where
       (address-built (h .context) (h .advertisements) (r .listed) (r .subscribed) (addressOf address)) nobody
   records-built h (DeletedAddress index address) p r = nobody
   records-built h (Subscribe service room) p r =
-      from-each (λ source. SearchFrom source service) (λ source. search-built source service (fits-passed typeMax service (p .1 .0) (p .1 .1 .0))) (upAddresses (h .context .links))
+      from-each (λ source. SearchFrom source service) (λ source. search-built source service (fits-passed typeMax service (p textOverSize) (p textNotGood))) (upAddresses (h .context .links))
   records-built h (Advertise name service location room) p r =
-      let t = three-fit nameMax typeMax locationMax name service location (p .1 .0) (p .1 .1 .0) in
+      let t = three-fit nameMax typeMax locationMax name service location (p textOverSize) (p textNotGood) in
       from-each (λ source. NotifyFrom source service name location) (λ source. notify-built source service name location (t .1) (t .0) (t .2)) (upAddresses (h .context .links))
   records-built h (Deadvertise name room) p r =
       each-flat (λ a. map (λ source. ByeByeFrom source (a .service) (a .name)) (upAddresses (h .context .links)))
@@ -144,4 +145,4 @@ unless-built (suc k) h s f = nobody
 pub step-built : Laws → (h : Held) (c : Call) → Reachable h → Each Built (step h c .sent)
 unfolding step accepted refusalOf
 step-built laws h c r =
-    unless-built (refusalOf h c) h (accepted h c) (λ e. records-built laws h c (passed (h .context) (namesOf h c) c e) r)
+    unless-built (refusalOf h c) h (accepted h c) (λ e. records-built laws h c (cleared (h .context) (namesOf h c) c e) r)

@@ -10,6 +10,7 @@ use lib.ListN.{length, take, getD, length-append, length-map, length-take}
 use borrow.Author.Tests.{leb-false}
 use Rattle.text.specs.Bytes.{equal}
 use Rattle.message.specs.Build.{typeMax, nameMax}
+use Rattle.message.specs.Refusals.{textOverSize, textNotGood}
 use Rattle.engine.specs.Sizes.{advertisementsMax, subscriptionsMax, linksMax, addressesMax, locationMax}
 use Rattle.engine.specs.Table.{known, enter}
 use Rattle.engine.specs.Flags.{isUp, isMulticast}
@@ -20,7 +21,7 @@ use Rattle.engine.specs.Calls.{Call, NewLink, DeletedLink, NewAddress, DeletedA
 use Rattle.engine.specs.Links.{addressesOf, anyUp, contains, lastInto, isV4, addressOf, linkAt, stores, linkWith, linkNews, addressNews, addressGone, contextAfter}
 use Rattle.engine.specs.Records.{isDue}
 use Rattle.engine.specs.Replies.{sameSender, shared, askedNeed, askedAnswer, hits, asked, servedNeed, served, newcomer, result, results}
-use Rattle.engine.specs.Refusals.{Names, checks}
+use Rattle.engine.specs.Refusals.{tableFull, linksFull, Names, checks}
 use Rattle.engine.specs.Engine.{namesOf, refusalOf, Step, accepted, unless, step}
 use Rattle.engine.specs.declared.advertisement.Endpoint.{Endpoint}
 use Rattle.engine.specs.declared.advertisement.ResponseNeeded.{ResponseNeeded}
@@ -29,7 +30,7 @@ use Rattle.claims.proofs.LeafLaws.{Laws}
 use Rattle.engine.proofs.Members.{Each, nobody, both, each-append, each-map, each-enter, each-leave}
 use Rattle.claims.proofs.Ascending.{Ascending, empty, ascending-enter, ascending-leave, ascending-map, length-enter, length-enter-known, length-leave}
 use Rattle.claims.proofs.Orders.{by-name, by-number}
-use Rattle.engine.proofs.Accepted.{Passed, passed, Fits, fits-passed, Single, single, Brings, brings}
+use Rattle.engine.proofs.Accepted.{Cleared, cleared, Fits, fits-passed, Single, single, Brings, brings}
 use Rattle.engine.proofs.Bound.{Few, at-few}
 
 -- the answer type of a reply that waits for one searcher
@@ -181,13 +182,13 @@ and-true : (a b : Bool) → (a && b) ≡ true → (a ≡ true) × (b ≡ true)
 and-true true b e = (refl, e)
 and-true false b e = absurd (true≢false (sym e))
 
-linked-after : (x : Context) (n : Names) (c : Call) → Passed (checks x n c) → Linked (x .links) → Linked (contextAfter x c .links)
+linked-after : (x : Context) (n : Names) (c : Call) → Cleared (checks x n c) → Linked (x .links) → Linked (contextAfter x c .links)
 unfolding checks contextAfter linkNews addressNews addressGone
 linked-after x n (NewLink index flags outcome room) p h =
     let ls = x .links in
     let b = linkWith index (isUp flags) (addressesOf (linkAt index ls)) in
     linked-cond (isMulticast flags) (enter byIndex b ls) ls
-    (λ t. linked-enter b ls (at-few index ls (h .addresses)) (news-few b ls (known byIndex index ls) (isMulticast flags) refl t (p .1 .1 .0) (h .few)) h) h
+    (λ t. linked-enter b ls (at-few index ls (h .addresses)) (news-few b ls (known byIndex index ls) (isMulticast flags) refl t (p linksFull) (h .few)) h) h
 linked-after x n (DeletedLink index outcome) p h = record {
   order = ascending-leave byIndex by-number index (h .order);
   few = omega (arith, length-leave byIndex index (x .links), h .few);
@@ -201,7 +202,7 @@ linked-after x n (NewAddress index address room) p h =
     (λ t.
     let s = and-true (isV4 address && known byIndex index ls) (not (contains (addressOf address) held)) t in
     let k = and-true (isV4 address) (known byIndex index ls) (s .0) in
-    let free = leb-false addressesMax (length held) (and-false (stores index address ls) (leb addressesMax (length held)) t (p .1 .1 .1 .0)) in
+    let free = leb-false addressesMax (length held) (and-false (stores index address ls) (leb addressesMax (length held)) t (p linksFull)) in
     linked-enter b ls (omega (arith, length-append held (addressOf address ∷ []), free)) (known-few b ls (k .1) (h .few)) h) h
 linked-after x n (DeletedAddress index address) p h =
     let ls = x .links in
@@ -219,15 +220,15 @@ linked-after x n (Datagram now sender receiver s) p h = h
 linked-after x n (Timeout now room) p h = h
 linked-after x n (ResetTimer now) p h = h
 
-subscribed-after : (x : Context) (n : Names) (c : Call) → Passed (checks x n c) → Subscribed (x .subscriptions) → Subscribed (contextAfter x c .subscriptions)
+subscribed-after : (x : Context) (n : Names) (c : Call) → Cleared (checks x n c) → Subscribed (x .subscriptions) → Subscribed (contextAfter x c .subscriptions)
 unfolding checks contextAfter
 subscribed-after x n (NewLink index flags outcome room) p h = h
 subscribed-after x n (DeletedLink index outcome) p h = h
 subscribed-after x n (NewAddress index address room) p h = h
 subscribed-after x n (DeletedAddress index address) p h = h
 subscribed-after x n (Subscribe service room) p h = record {
-  few = omega (arith, length-append (x .subscriptions) (service ∷ []), leb-false subscriptionsMax (length (x .subscriptions)) (p .1 .1 .1 .0));
-  fit = each-append (h .fit) (both (fits-passed typeMax service (p .1 .0) (p .1 .1 .0)) nobody);
+  few = omega (arith, length-append (x .subscriptions) (service ∷ []), leb-false subscriptionsMax (length (x .subscriptions)) (p tableFull));
+  fit = each-append (h .fit) (both (fits-passed typeMax service (p textOverSize) (p textNotGood)) nobody);
 }
 subscribed-after x n (Advertise name service location room) p h = h
 subscribed-after x n (Deadvertise name room) p h = h
@@ -248,7 +249,7 @@ reachable-fresh seed time = record {
 pub accepted-reachable : Laws → (h : Held) (c : Call) → refusalOf h c ≡ 0 → Reachable h → Reachable (accepted h c .after)
 unfolding accepted refusalOf
 accepted-reachable laws h c e r =
-    let p = passed (h .context) (namesOf h c) c e in
+    let p = cleared (h .context) (namesOf h c) c e in
     record {
       listed = results-listed laws (h .context .seed) (acts c) (h .advertisements) (single c) (brings h c e) (r .listed);
       linked = linked-after (h .context) (namesOf h c) c p (r .linked);

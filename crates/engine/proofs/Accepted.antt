@@ -5,12 +5,13 @@ use mathlib.Core.List.{List, [], _∷_}
 use mathlib.Core.Option.{Option, none, some}
 use Prim.Native.Nat.{ℕ, _≤_}
 use native.Mathlib.Omega.{arith}
-use lib.Dec.{leb}
+use lib.Dec.{leb, eqb}
 use lib.ListN.{length}
 use borrow.Author.Tests.{ltb-false, not-false, not-true, eqb-false}
 use Rattle.text.specs.Good.{goodText}
 use Rattle.message.specs.Parse.{parsed, fieldAt}
 use Rattle.message.specs.Build.{typeMax, nameMax, atMost}
+use Rattle.message.specs.Refusals.{textOverSize, textNotGood}
 use Rattle.message.proofs.Sending.{Fit}
 use Rattle.message.specs.declared.Message.{Message}
 use Rattle.message.specs.declared.Message.the-variants.{NotifyAlive, NotifyByeBye, Search, Response}
@@ -18,7 +19,7 @@ use Rattle.engine.specs.Sizes.{advertisementsMax, locationMax}
 use Rattle.engine.specs.Table.{known}
 use Rattle.engine.specs.Held.{Text, Context, Held, Advertisement, advertised}
 use Rattle.engine.specs.Calls.{Call, NewLink, DeletedLink, NewAddress, DeletedAddress, Subscribe, Advertise, Deadvertise, Refresh, Datagram, Timeout, ResetTimer, Act, Enters, Leaves, Asks, Ticks, asks, acts}
-use Rattle.engine.specs.Refusals.{Check, firstOf, Names, over, bad, searchChecks, checks, refusal}
+use Rattle.engine.specs.Refusals.{tableFull, Check, firstOf, Names, over, bad, searchChecks, checks, refusal}
 use Rattle.engine.specs.Engine.{namesOf, refusalOf}
 use Rattle.engine.specs.declared.advertisement.Endpoint.{Endpoint}
 use Rattle.engine.proofs.Members.{Each, nobody, both}
@@ -66,6 +67,25 @@ numbered x n (ResetTimer now) = (λ b. omega arith, tt)
 pub passed : (x : Context) (n : Names) (c : Call) → refusal x n c ≡ 0 → Passed (checks x n c)
 unfolding refusal
 passed x n c e = all-passed (checks x n c) (numbered x n c) e
+
+-- the check with this number; asked for by it, the order of the checks is no matter
+abbrev pub failing : ℕ → List Check → Bool
+failing number [] = false
+failing number (c ∷ cs) = cond (eqb number (c .number)) (c .fails) (failing number cs)
+
+abbrev pub Cleared : List Check → Type 0
+Cleared cs = (number : ℕ) → failing number cs ≡ false
+
+by-number : (cs : List Check) → Passed cs → Cleared cs
+by-number [] p number = refl
+by-number (c ∷ cs) p number = go (eqb number (c .number)) (by-number cs (p .1) number)
+  where
+    go : (same : Bool) → failing number cs ≡ false → cond same (c .fails) (failing number cs) ≡ false
+    go true rest = p .0
+    go false rest = rest
+
+pub cleared : (x : Context) (n : Names) (c : Call) → refusal x n c ≡ 0 → Cleared (checks x n c)
+cleared x n c e = by-number (checks x n c) (passed x n c e)
 
 -- ---- texts
 pub or-false : (a b : Bool) → (a || b) ≡ false → (a ≡ false) × (b ≡ false)
@@ -140,8 +160,9 @@ brings-at h (NewAddress index address room) p = nobody
 brings-at h (DeletedAddress index address) p = nobody
 brings-at h (Subscribe service room) p = nobody
 brings-at h (Advertise name service location room) p =
-    let t = three-fit nameMax typeMax locationMax name service location (p .1 .0) (p .1 .1 .0) in
-    both {a = Enters name service location} (t .0, t .1, t .2, p .1 .1 .1 .0) nobody
+    let k = by-number (checks (h .context) (namesOf h (Advertise name service location room)) (Advertise name service location room)) p in
+    let t = three-fit nameMax typeMax locationMax name service location (k textOverSize) (k textNotGood) in
+    both {a = Enters name service location} (t .0, t .1, t .2, k tableFull) nobody
 brings-at h (Deadvertise name room) p = both {a = Leaves name} tt nobody
 brings-at h (Refresh room) p = nobody
 brings-at h (Datagram now sender receiver s) p = asks-bring (h .advertisements) now sender receiver s (parsed s .message) (p .1 .1)

@@ -4,14 +4,15 @@ use mathlib.Core.Bool.{_||_}
 use mathlib.Core.List.{List, [], map}
 use Prim.Native.Nat.{ℕ}
 use Rattle.engine.proofs.Bound.{enough}
-use Rattle.engine.proofs.Accepted.{or-false, passed}
+use Rattle.engine.proofs.Accepted.{or-false, cleared}
 use Rattle.engine.proofs.NameRows.{names-length}
+use Rattle.message.specs.Refusals.{textOverSize}
 use Rattle.engine.specs.Arrays.{headPlaces, held, numbersSize, engine, textsSize}
 use Rattle.engine.specs.Calls.{Advertise, acts}
 use Rattle.engine.specs.Engine.{namesOf, notifies, refusalOf}
 use Rattle.engine.specs.Links.{contextAfter}
 use Rattle.engine.specs.Records.{NotifyFrom, records}
-use Rattle.engine.specs.Refusals.{checks, over}
+use Rattle.engine.specs.Refusals.{outboxShort, tableFull, checks, over}
 use Rattle.engine.specs.Replies.{drops, result, results}
 use Rattle.engine.specs.Sizes.{locationMax}
 use Rattle.message.specs.Build.{nameMax, typeMax}
@@ -59,10 +60,10 @@ send-alive-requires c κs =
     let a = at-spot-of .before .before .before .before .before .before .before .before .before .before .before .args in
     let t = engine (a .head .now) (a .links .now) [] (a .numbers .now) (a .texts .now) in
     let call = Advertise (a .name .now) (a .service .now) (a .location .now) (length (a .outbox .now)) in
-    let p = passed (held t .context) (namesOf (held t) call) call (sym (at-of-advertise .of-advertise .ensures _ _ _ (sym (at-spot-of .spot-of .ensures .known)) (names-length (a .head .now) (a .numbers .now) (a .texts .now) ∙ sym (at-count-of .count-of .ensures)) refl) ∙ at-if1 .if1 .left) in
-    let over₂ = or-false (over nameMax (a .name .now) || over typeMax (a .service .now)) (over locationMax (a .location .now)) (p .1 .0) in
+    let p = cleared (held t .context) (namesOf (held t) call) call (sym (at-of-advertise .of-advertise .ensures _ _ _ (sym (at-spot-of .spot-of .ensures .known)) (names-length (a .head .now) (a .numbers .now) (a .texts .now) ∙ sym (at-count-of .count-of .ensures)) refl) ∙ at-if1 .if1 .left) in
+    let over₂ = or-false (over nameMax (a .name .now) || over typeMax (a .service .now)) (over locationMax (a .location .now)) (p textOverSize) in
     let over₁ = or-false (over nameMax (a .name .now)) (over typeMax (a .service .now)) (over₂ .0) in (
-      enough t call (a .outbox .now) (p .0)
+      enough t call (a .outbox .now) (p outboxShort)
           (ap (λ (l : List ℕ). map (λ source. NotifyFrom source (a .service .now) (a .name .now) (a .location .now)) l) (c .before .before .of-up-links .ensures .held)),
       omega (arith, ltb-false locationMax (length (a .location .now)) (over₂ .1)),
     )
@@ -84,8 +85,8 @@ enter-requires c κs =
     let a = at-spot-of .before .before .before .before .before .before .before .before .before .before .before .args in
     let t = engine (a .head .now) (a .links .now) [] (a .numbers .now) (a .texts .now) in
     let call = Advertise (a .name .now) (a .service .now) (a .location .now) (length (a .outbox .now)) in
-    let p = passed (held t .context) (namesOf (held t) call) call (sym (at-of-advertise .of-advertise .ensures _ _ _ (sym (at-spot-of .spot-of .ensures .known)) (names-length (a .head .now) (a .numbers .now) (a .texts .now) ∙ sym (at-count-of .count-of .ensures)) refl) ∙ at-if1 .if1 .left) in
-    let over₂ = or-false (over nameMax (a .name .now) || over typeMax (a .service .now)) (over locationMax (a .location .now)) (p .1 .0) in
+    let p = cleared (held t .context) (namesOf (held t) call) call (sym (at-of-advertise .of-advertise .ensures _ _ _ (sym (at-spot-of .spot-of .ensures .known)) (names-length (a .head .now) (a .numbers .now) (a .texts .now) ∙ sym (at-count-of .count-of .ensures)) refl) ∙ at-if1 .if1 .left) in
+    let over₂ = or-false (over nameMax (a .name .now) || over typeMax (a .service .now)) (over locationMax (a .location .now)) (p textOverSize) in
     let over₁ = or-false (over nameMax (a .name .now)) (over typeMax (a .service .now)) (over₂ .0) in
     let numbers : length (a .numbers .now) ≡ numbersSize = omega arith in
     let texts : length (a .texts .now) ≡ textsSize = omega arith in (
@@ -95,7 +96,7 @@ enter-requires c κs =
       omega (arith, ltb-false nameMax (length (a .name .now)) (over₁ .0)),
       omega (arith, ltb-false typeMax (length (a .service .now)) (over₁ .1)),
       omega (arith, ltb-false locationMax (length (a .location .now)) (over₂ .1)),
-      p .1 .1 .1 .0,
+      p tableFull,
     )
 
 set-count-requires : tie.Need-set-count-requires

@@ -2,13 +2,13 @@
 use mathlib.Core.Path.{_∙_, _≡_, ap, refl, sym}
 use mathlib.Core.List.{[]}
 use Rattle.engine.proofs.Bound.{enough}
-use Rattle.engine.proofs.Accepted.{passed}
+use Rattle.engine.proofs.Accepted.{cleared}
 use Rattle.engine.specs.Arrays.{headPlaces, held, linksIn, numbersSize, engine, textsSize}
 use Rattle.engine.specs.Calls.{Deadvertise, acts}
 use Rattle.engine.specs.Engine.{namesOf, notifies, refusalOf}
 use Rattle.engine.specs.Links.{contextAfter, upAddresses}
 use Rattle.engine.specs.Records.{records}
-use Rattle.engine.specs.Refusals.{checks}
+use Rattle.engine.specs.Refusals.{outboxShort, checks}
 use Rattle.engine.specs.Replies.{drops, result, results}
 use borrow.Author.Needs.{needs}
 use lib.ListN.{length}
@@ -46,12 +46,12 @@ byebye-if-requires c κs =
     let a = at-of-room .before .before .before .args in
     let t = engine (a .head .now) (a .links .now) [] (a .numbers .now) (a .texts .now) in
     let call = Deadvertise (a .name .now) (length (a .outbox .now)) in
-    let p = passed (held t .context) (namesOf (held t) call) call (sym (at-of-room .of-room .ensures _ _ _ refl .1 (a .name .now)) ∙ at-if1 .if1 .left) in
+    let p = cleared (held t .context) (namesOf (held t) call) call (sym (at-of-room .of-room .ensures _ _ _ refl .1 (a .name .now)) ∙ at-if1 .if1 .left) in
     let at = lending.spot-lt (a .head .now) (a .numbers .now) (a .texts .now) (a .name .now) (at-spot-of .spot-of .result) (at-spot-of .spot-of .ensures) in (
       (omega (arith, at-byebye-if-arg3 .byebye-if-arg3 .given .0), omega (arith, at-byebye-if-arg4 .byebye-if-arg4 .given .0)),
       (omega (arith, c .before .before .byebye-if-arg6 .given .0), omega (arith, c .byebye-if-arg8 .given .0)),
       λ k. let b = at k in omega arith,
-      enough t call (a .outbox .now) (p .0)
+      enough t call (a .outbox .now) (p outboxShort)
           (lending.byebyes-are (a .head .now) (a .numbers .now) (a .texts .now) (a .name .now) (at-spot-of .spot-of .result) (at-spot-of .spot-of .ensures) (upAddresses (linksIn (a .head .now) (a .links .now)))),
     )
 

@@ -3,7 +3,7 @@ use mathlib.Core.Path.{_∙_, _≡_, ap, refl, sym}
 use mathlib.Core.List.{List}
 use Prim.Native.Nat.{_≤_, _<_}
 use Rattle.engine.proofs.Bound.{enough}
-use Rattle.engine.proofs.Accepted.{passed}
+use Rattle.engine.proofs.Accepted.{cleared}
 use Rattle.engine.proofs.NothingDue.{idle-done, idle-counts, idle-sent}
 use Rattle.engine.proofs.Timer.{timer-accepted}
 use Rattle.engine.specs.Arrays.{headPlaces, held, linksIn, namesIn, searchesIn, seedIn, engine, timerIn}
@@ -13,7 +13,7 @@ use Rattle.engine.specs.Held.{Advertisement, holding}
 use Rattle.engine.specs.Links.{contextAfter}
 use Rattle.engine.specs.Records.{records, refreshRecords, timeoutOn}
 use Rattle.engine.specs.RefreshTimer.{timerStep}
-use Rattle.engine.specs.Refusals.{checks}
+use Rattle.engine.specs.Refusals.{timeLate, outboxShort, checks}
 use Rattle.engine.specs.Replies.{aloneAt, groupAt, result, results, sumOf}
 use Rattle.engine.specs.Sizes.{timeMax}
 use Rattle.engine.specs.Outcomes.{sends}
@@ -78,11 +78,11 @@ send-timeout-requires c κs =
     let a = at-of-timeout .before .before .args in
     let t = engine (a .head .now) (a .links .now) (a .searches .now) (a .numbers .now) (a .texts .now) in
     let call = Timeout (a .time) (length (a .outbox .now)) in
-    let p = passed (held t .context) (namesOf (held t) call) call (sym (at-of-timeout .of-timeout .ensures _ _ _ refl) ∙ at-if1 .if1 .left) in
+    let p = cleared (held t .context) (namesOf (held t) call) call (sym (at-of-timeout .of-timeout .ensures _ _ _ refl) ∙ at-if1 .if1 .left) in
     let at-timer-in = c .before .before .before .before .before .before .before .before in
     let up = at-timer-in .before .before .before .before .of-up-links .ensures .held in
     let room =
-    enough t call (a .outbox .now) (p .1 .0)
+    enough t call (a .outbox .now) (p outboxShort)
     (λ i. timeoutOn (up i) (leb (at-timer-in .timer-in .ensures i .«next_salvo») (a .time)) (a .time) (searchesIn (a .head .now) (a .searches .now)) (namesIn (a .head .now) (a .numbers .now) (a .texts .now)))
     in
     search needs
@@ -121,10 +121,10 @@ returns-3 c =
     let size : length (a .head .now) ≡ headPlaces = omega (arith, at-timer-in-arg2 .timer-in-arg2 .given .0) in
     let t = engine (a .head .now) (a .links .now) (a .searches .now) (a .numbers .now) (a .texts .now) in
     let call = Timeout (a .time) (length (a .outbox .now)) in
-    let p = passed (held t .context) (namesOf (held t) call) call (sym (at-of-timeout .of-timeout .ensures _ _ _ refl) ∙ at-if1 .if1 .left) in
+    let p = cleared (held t .context) (namesOf (held t) call) call (sym (at-of-timeout .of-timeout .ensures _ _ _ refl) ∙ at-if1 .if1 .left) in
     let head = a .head .now in
     let names = namesIn head (a .numbers .now) (a .texts .now) in
-    let time : a .time ≤ timeMax = omega (arith, ltb-false timeMax (a .time) (p .0)) in
+    let time : a .time ≤ timeMax = omega (arith, ltb-false timeMax (a .time) (p timeLate)) in
     let timer : at-rolled .rolled .result ≡ timerStep (timerIn head) (a .time) =
     at-rolled .rolled .ensures ∙ timer-accepted (a .time) (at-timer-in .timer-in .result) (timerStep (at-timer-in .timer-in .result) (a .time)) time ∙ ap (λ (x : RefreshTimer). timerStep x (a .time)) (at-timer-in .timer-in .ensures)
     in

@@ -3,13 +3,13 @@ use mathlib.Core.Path.{_∙_, _≡_, ap, refl, sym}
 use mathlib.Core.Bool.{_&&_, cond}
 use mathlib.Core.List.{[]}
 use Rattle.engine.proofs.Bound.{enough}
-use Rattle.engine.proofs.Accepted.{passed}
+use Rattle.engine.proofs.Accepted.{cleared}
 use Rattle.engine.specs.Arrays.{headPlaces, held, linksIn, namesIn, searchesIn, engine}
 use Rattle.engine.specs.Calls.{NewAddress, acts}
 use Rattle.engine.specs.Engine.{namesOf, notifies, refusalOf}
 use Rattle.engine.specs.Links.{contextAfter}
 use Rattle.engine.specs.Records.{addressRecords, allFrom, records}
-use Rattle.engine.specs.Refusals.{checks}
+use Rattle.engine.specs.Refusals.{outboxShort, linksFull, checks}
 use Rattle.engine.specs.Replies.{results}
 use borrow.Author.Needs.{needs}
 use lib.ListN.{length}
@@ -60,10 +60,10 @@ send-if-stored-requires c κs =
     let a = at-lookup .before .before .before .before .before .before .before .args in
     let t = engine (a .head .now) (a .links .now) (a .searches .now) (a .numbers .now) (a .texts .now) in
     let call = NewAddress (a .index) (a .address .now) (length (a .outbox .now)) in
-    let p = passed (held t .context) (namesOf (held t) call) call (sym (at-of-new-address .of-new-address .ensures _ _ _ (sym (at-is-stored .is-stored .ensures (a .index) (linksIn (a .head .now) (a .links .now)) (at-lookup .lookup .ensures))) (sym (at-count-of .count-of .ensures ∙ ap length (at-lookup .lookup .ensures .addresses))) refl) ∙ at-if1 .if1 .left) in
+    let p = cleared (held t .context) (namesOf (held t) call) call (sym (at-of-new-address .of-new-address .ensures _ _ _ (sym (at-is-stored .is-stored .ensures (a .index) (linksIn (a .head .now) (a .links .now)) (at-lookup .lookup .ensures))) (sym (at-count-of .count-of .ensures ∙ ap length (at-lookup .lookup .ensures .addresses))) refl) ∙ at-if1 .if1 .left) in
     let sends = allFrom (searchesIn (a .head .now) (a .searches .now)) (namesIn (a .head .now) (a .numbers .now) (a .texts .now)) in
     let room =
-    enough t call (a .outbox .now) (p .0)
+    enough t call (a .outbox .now) (p outboxShort)
     (λ i. cond (at-is-stored .is-stored .ensures (a .index) (linksIn (a .head .now) (a .links .now)) (at-lookup .lookup .ensures) i && at-lookup .lookup .ensures .up i) (sends (at-send-if-stored-arg3 .before .before .before .before .number-of .ensures i)) [])
     in
     ((omega (arith, at-send-if-stored-arg3 .send-if-stored-arg3 .given .0), omega (arith, c .before .before .send-if-stored-arg4 .given .0)), (omega (arith, c .before .send-if-stored-arg5 .given .0), omega (arith, c .send-if-stored-arg6 .given .0)), room)
@@ -101,11 +101,11 @@ returns-2 c =
     let t = engine (a .head .now) (a .links .now) (a .searches .now) (a .numbers .now) (a .texts .now) in
     let call = NewAddress (a .index) (a .address .now) (length (a .outbox .now)) in
     let number = sym (at-of-new-address .of-new-address .ensures _ _ _ (sym (at-is-stored .is-stored .ensures (a .index) (linksIn (a .head .now) (a .links .now)) (at-lookup .lookup .ensures))) (sym (at-count-of .count-of .ensures ∙ ap length (at-lookup .lookup .ensures .addresses))) refl) ∙ at-if1 .if1 .left in
-    let p = passed (held t .context) (namesOf (held t) call) call number in
+    let p = cleared (held t .context) (namesOf (held t) call) call number in
     let links = linksIn (a .head .now) (a .links .now) in
     let sends = allFrom (searchesIn (a .head .now) (a .searches .now)) (namesIn (a .head .now) (a .numbers .now) (a .texts .now)) in
     lending.done-answers t _ call (at-send-if-stored .send-if-stored .result) _ _ number
-    (lending.links-changed (a .head .now) (a .links .now) (a .searches .now) (a .numbers .now) (a .texts .now) size (at-address-stored .address-stored .result) _ (at-set-count .set-count .ensures) (at-address-stored .address-stored .ensures (a .index) (at-lookup .lookup .ensures) (p .1 .1 .1 .0)))
+    (lending.links-changed (a .head .now) (a .links .now) (a .searches .now) (a .numbers .now) (a .texts .now) size (at-address-stored .address-stored .result) _ (at-set-count .set-count .ensures) (at-address-stored .address-stored .ensures (a .index) (at-lookup .lookup .ensures) (p linksFull)))
     (c .before .nothing .ensures .0) (c .before .nothing .ensures .1)
     (answering.sent-as (at-send-if-stored .send-if-stored .ensures)
     (λ i. cond (at-is-stored .is-stored .ensures (a .index) links (at-lookup .lookup .ensures) i && at-lookup .lookup .ensures .up i) (sends (at-number-of .number-of .ensures i)) []))

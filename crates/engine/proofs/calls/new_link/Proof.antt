@@ -4,13 +4,13 @@ use mathlib.Core.Bool.{Bool, cond}
 use mathlib.Core.List.{List, []}
 use Prim.Native.Nat.{ℕ}
 use Rattle.engine.proofs.Bound.{enough}
-use Rattle.engine.proofs.Accepted.{passed}
+use Rattle.engine.proofs.Accepted.{cleared}
 use Rattle.engine.specs.Arrays.{headPlaces, held, linksIn, namesIn, searchesIn, engine}
 use Rattle.engine.specs.Calls.{NewLink, acts}
 use Rattle.engine.specs.Engine.{namesOf, notifies, refusalOf}
 use Rattle.engine.specs.Links.{contextAfter}
 use Rattle.engine.specs.Records.{addressRecords, allFrom, flat, records, turnsUp}
-use Rattle.engine.specs.Refusals.{checks}
+use Rattle.engine.specs.Refusals.{outboxShort, linksFull, checks}
 use Rattle.engine.specs.Replies.{results}
 use borrow.Author.Needs.{needs}
 use lib.ListN.{length, take}
@@ -61,11 +61,11 @@ send-if-up-requires c κs =
     let a = at-lookup .before .before .before .before .before .before .args in
     let t = engine (a .head .now) (a .links .now) (a .searches .now) (a .numbers .now) (a .texts .now) in
     let call = NewLink (a .index) (a .flags) (a .outcome) (length (a .outbox .now)) in
-    let p = passed (held t .context) (namesOf (held t) call) call (sym (at-of-new-link .of-new-link .ensures _ _ _ (a .flags) (sym (at-is-multicast .is-multicast .ensures)) (sym (at-lookup .lookup .ensures .known)) (lending.links-length (a .head .now) (a .links .now) ∙ sym (at-count-of .count-of .ensures)) refl) ∙ at-if1 .if1 .left) in
+    let p = cleared (held t .context) (namesOf (held t) call) call (sym (at-of-new-link .of-new-link .ensures _ _ _ (a .flags) (sym (at-is-multicast .is-multicast .ensures)) (sym (at-lookup .lookup .ensures .known)) (lending.links-length (a .head .now) (a .links .now) ∙ sym (at-count-of .count-of .ensures)) refl) ∙ at-if1 .if1 .left) in
     let links = linksIn (a .head .now) (a .links .now) in
     let sends = flat (allFrom (searchesIn (a .head .now) (a .searches .now)) (namesIn (a .head .now) (a .numbers .now) (a .texts .now))) in
     let room =
-    enough t call (a .outbox .now) (p .0)
+    enough t call (a .outbox .now) (p outboxShort)
     (ap (λ (b : Bool). cond b (sends (take (at-lookup .lookup .result .link .count) (at-lookup .lookup .result .link .addresses))) []) (at-send-if-up-arg3 .before .before .before .turns-up .ensures (a .index) links (at-lookup .lookup .ensures))
     ∙ ap (λ (l : List ℕ). cond (turnsUp (a .index) (a .flags) links) (sends l) []) (at-lookup .lookup .ensures .addresses))
     in
@@ -104,11 +104,11 @@ returns-2 c =
     let t = engine (a .head .now) (a .links .now) (a .searches .now) (a .numbers .now) (a .texts .now) in
     let call = NewLink (a .index) (a .flags) (a .outcome) (length (a .outbox .now)) in
     let number = sym (at-of-new-link .of-new-link .ensures _ _ _ (a .flags) (sym (at-is-multicast .is-multicast .ensures)) (sym (at-lookup .lookup .ensures .known)) (lending.links-length (a .head .now) (a .links .now) ∙ sym (at-count-of .count-of .ensures)) refl) ∙ at-if1 .if1 .left in
-    let p = passed (held t .context) (namesOf (held t) call) call number in
+    let p = cleared (held t .context) (namesOf (held t) call) call number in
     let links = linksIn (a .head .now) (a .links .now) in
     let sends = flat (allFrom (searchesIn (a .head .now) (a .searches .now)) (namesIn (a .head .now) (a .numbers .now) (a .texts .now))) in
     lending.done-answers t _ call (at-send-if-up .send-if-up .result) _ _ number
-    (lending.links-changed (a .head .now) (a .links .now) (a .searches .now) (a .numbers .now) (a .texts .now) size (at-link-stored .link-stored .result) _ (at-set-count .set-count .ensures) (at-link-stored .link-stored .ensures (a .index) (at-lookup .lookup .ensures) (p .1 .1 .0)))
+    (lending.links-changed (a .head .now) (a .links .now) (a .searches .now) (a .numbers .now) (a .texts .now) size (at-link-stored .link-stored .result) _ (at-set-count .set-count .ensures) (at-link-stored .link-stored .ensures (a .index) (at-lookup .lookup .ensures) (p linksFull)))
     (c .before .nothing .ensures .0) (c .before .nothing .ensures .1)
     (answering.sent-as (at-send-if-up .send-if-up .ensures)
     (ap (λ (b : Bool). cond b (sends (take (at-lookup .lookup .result .link .count) (at-lookup .lookup .result .link .addresses))) []) (at-turns-up .turns-up .ensures (a .index) links (at-lookup .lookup .ensures))

@@ -3,13 +3,13 @@ use mathlib.Core.Path.{_∙_, ap, refl, sym}
 use mathlib.Core.List.{List}
 use Prim.Native.Nat.{ℕ}
 use Rattle.engine.proofs.Bound.{enough}
-use Rattle.engine.proofs.Accepted.{passed}
+use Rattle.engine.proofs.Accepted.{cleared}
 use Rattle.engine.specs.Arrays.{held, namesIn, searchesIn, engine}
 use Rattle.engine.specs.Calls.{Refresh, acts}
 use Rattle.engine.specs.Engine.{namesOf, notifies, refusalOf}
 use Rattle.engine.specs.Links.{contextAfter}
 use Rattle.engine.specs.Records.{records, refreshOn, refreshRecords}
-use Rattle.engine.specs.Refusals.{checks}
+use Rattle.engine.specs.Refusals.{outboxShort, checks}
 use Rattle.engine.specs.Replies.{results}
 use borrow.Author.Needs.{needs}
 use lib.ListN.{length}
@@ -43,9 +43,9 @@ send-refresh-requires c κs =
     let a = at-of-room .before .before .args in
     let t = engine (a .head .now) (a .links .now) (a .searches .now) (a .numbers .now) (a .texts .now) in
     let call = Refresh (length (a .outbox .now)) in
-    let p = passed (held t .context) (namesOf (held t) call) call (sym (at-of-room .of-room .ensures _ _ _ refl .0) ∙ at-if1 .if1 .left) in
+    let p = cleared (held t .context) (namesOf (held t) call) call (sym (at-of-room .of-room .ensures _ _ _ refl .0) ∙ at-if1 .if1 .left) in
     let room =
-    enough t call (a .outbox .now) (p .0)
+    enough t call (a .outbox .now) (p outboxShort)
     (ap (λ (l : List ℕ). refreshOn l (searchesIn (a .head .now) (a .searches .now)) (namesIn (a .head .now) (a .numbers .now) (a .texts .now))) (c .before .before .before .before .before .before .of-up-links .ensures .held))
     in
     search needs

@@ -3,13 +3,14 @@ use mathlib.Core.Path.{_∙_, _≡_, ap, refl, sym}
 use mathlib.Core.List.{List, []}
 use Prim.Native.Nat.{ℕ}
 use Rattle.engine.proofs.Bound.{enough}
-use Rattle.engine.proofs.Accepted.{passed}
+use Rattle.engine.proofs.Accepted.{cleared}
+use Rattle.message.specs.Refusals.{textOverSize}
 use Rattle.engine.specs.Arrays.{headPlaces, held, engine}
 use Rattle.engine.specs.Calls.{Subscribe, acts}
 use Rattle.engine.specs.Engine.{namesOf, notifies, refusalOf}
 use Rattle.engine.specs.Links.{contextAfter}
 use Rattle.engine.specs.Records.{records, searchOn}
-use Rattle.engine.specs.Refusals.{checks}
+use Rattle.engine.specs.Refusals.{outboxShort, tableFull, checks}
 use Rattle.engine.specs.Replies.{results}
 use Rattle.message.specs.Build.{typeMax}
 use borrow.Author.Needs.{needs}
@@ -51,8 +52,8 @@ send-search-requires c κs =
     let a = at-count-of .before .before .before .before .before .args in
     let t = engine (a .head .now) (a .links .now) (a .searches .now) (a .numbers .now) [] in
     let call = Subscribe (a .service .now) (length (a .outbox .now)) in
-    let p = passed (held t .context) (namesOf (held t) call) call (sym (at-of-subscribe .of-subscribe .ensures _ _ _ (lending.searches-length (a .head .now) (a .searches .now) ∙ sym (at-count-of .count-of .ensures)) refl) ∙ at-if1 .if1 .left) in
-    enough t call (a .outbox .now) (p .0) (ap (λ (l : List ℕ). searchOn l (a .service .now)) (c .before .before .of-up-links .ensures .held))
+    let p = cleared (held t .context) (namesOf (held t) call) call (sym (at-of-subscribe .of-subscribe .ensures _ _ _ (lending.searches-length (a .head .now) (a .searches .now) ∙ sym (at-count-of .count-of .ensures)) refl) ∙ at-if1 .if1 .left) in
+    enough t call (a .outbox .now) (p outboxShort) (ap (λ (l : List ℕ). searchOn l (a .service .now)) (c .before .before .of-up-links .ensures .held))
 
 push-requires : tie.Need-push-requires
 unfolding checks namesOf held
@@ -63,9 +64,9 @@ push-requires c κs =
     let a = at-count-of .before .before .before .before .before .args in
     let t = engine (a .head .now) (a .links .now) (a .searches .now) (a .numbers .now) [] in
     let call = Subscribe (a .service .now) (length (a .outbox .now)) in
-    let p = passed (held t .context) (namesOf (held t) call) call (sym (at-of-subscribe .of-subscribe .ensures _ _ _ (lending.searches-length (a .head .now) (a .searches .now) ∙ sym (at-count-of .count-of .ensures)) refl) ∙ at-if1 .if1 .left) in (
-      lending.searches-free (a .head .now) (a .searches .now) (at-count-of .count-of .result) (at-count-of .count-of .ensures) (p .1 .1 .1 .0),
-      ltb-false typeMax (length (a .service .now)) (p .1 .0),
+    let p = cleared (held t .context) (namesOf (held t) call) call (sym (at-of-subscribe .of-subscribe .ensures _ _ _ (lending.searches-length (a .head .now) (a .searches .now) ∙ sym (at-count-of .count-of .ensures)) refl) ∙ at-if1 .if1 .left) in (
+      lending.searches-free (a .head .now) (a .searches .now) (at-count-of .count-of .result) (at-count-of .count-of .ensures) (p tableFull),
+      ltb-false typeMax (length (a .service .now)) (p textOverSize),
       omega arith,
     )
 
@@ -99,8 +100,8 @@ returns-2 c texts =
     let t = engine (a .head .now) (a .links .now) (a .searches .now) (a .numbers .now) texts in
     let call = Subscribe (a .service .now) (length (a .outbox .now)) in
     let number = sym (at-of-subscribe .of-subscribe .ensures _ _ _ (lending.searches-length (a .head .now) (a .searches .now) ∙ sym (at-count-of .count-of .ensures)) refl) ∙ at-if1 .if1 .left in
-    let p = passed (held t .context) (namesOf (held t) call) call number in
-    let free = lending.searches-free (a .head .now) (a .searches .now) (at-count-of .count-of .result) (at-count-of .count-of .ensures) (p .1 .1 .1 .0) in
+    let p = cleared (held t .context) (namesOf (held t) call) call number in
+    let free = lending.searches-free (a .head .now) (a .searches .now) (at-count-of .count-of .result) (at-count-of .count-of .ensures) (p tableFull) in
     lending.done-answers t _ call (at-send-search .send-search .result) _ _ number
     (lending.searches-pushed (a .head .now) (a .links .now) (a .searches .now) (a .numbers .now) texts size _ (at-count-of .count-of .result) (a .service .now) (at-set-count .set-count .ensures) (at-count-of .count-of .ensures) free (at-push .push .ensures))
     (c .before .nothing .ensures .0) (c .before .nothing .ensures .1)

@@ -111,18 +111,18 @@ fn ask_for(
     numbers: &mut [u64],
     texts: &mut [u8],
     i: usize,
-    all: bool,
+    wanted: Wanted,
     opened: ActiveAdvertisement,
     due: u64,
     sender: Endpoint,
     receiver: u32,
 ) -> Asked
     requires { ⌜ (i < advertisementsMax) × NameArrays (now numbers) (now texts) ⌝ }
-    ensures { λ r. ⌜ ((target : List ℕ) (n : ℕ) → Opening target due sender receiver all opened → targetMatch target (entryAt i (now (numbers .entry)) (now (texts .entry)) .service) ≡ true → i < n → n ≤ advertisementsMax → PassOne (asked due (askedBy target sender receiver)) (matchedBy (askedBy target sender receiver)) (joinedBy (askedBy target sender receiver)) blank i (entries n (now (numbers .entry)) (now (texts .entry))) (entries n (now (numbers .exit)) (now (texts .exit))) (r .matched) (r .joined)) ⌝ }
+    ensures { λ r. ⌜ ((target : List ℕ) (n : ℕ) → wanted ≡ wantedOf target → Opening target due sender receiver (equal target ssdpAll) opened → targetMatch target (entryAt i (now (numbers .entry)) (now (texts .entry)) .service) ≡ true → i < n → n ≤ advertisementsMax → PassOne (asked due (askedBy target sender receiver)) (matchedBy (askedBy target sender receiver)) (joinedBy (askedBy target sender receiver)) blank i (entries n (now (numbers .entry)) (now (texts .entry))) (entries n (now (numbers .exit)) (now (texts .exit))) (r .matched) (r .joined)) ⌝ }
 {
     let needed = reply_at(numbers, i);
     if opens(needed) {
-        open_at(numbers, texts, i, all, opened);
+        open_at(numbers, texts, i, wants_all(wanted), opened);
         return Asked {
             matched: 1,
             joined: 0,
@@ -151,8 +151,7 @@ fn ask_one(
     ensures { λ r. ⌜ ((n : ℕ) → i < n → n ≤ advertisementsMax → PassOne (asked due (askedBy (now (target .entry)) sender receiver)) (matchedBy (askedBy (now (target .entry)) sender receiver)) (joinedBy (askedBy (now (target .entry)) sender receiver)) blank i (entries n (now (numbers .entry)) (now (texts .entry))) (entries n (now (numbers .exit)) (now (texts .exit))) (r .matched) (r .joined)) ⌝ }
 {
     if is_asked(numbers, texts, i, target, wanted) {
-        let all = wants_all(wanted);
-        return ask_for(numbers, texts, i, all, opened, due, sender, receiver);
+        return ask_for(numbers, texts, i, wanted, opened, due, sender, receiver);
     }
     Asked {
         matched: 0,

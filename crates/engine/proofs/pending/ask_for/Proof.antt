@@ -14,6 +14,9 @@ reply-at-requires c κs = search needs
 opens-requires : tie.Need-opens-requires
 opens-requires c κs = search needs
 
+wants-all-requires : tie.Need-wants-all-requires
+wants-all-requires c κs = search needs
+
 open-at-requires : tie.Need-open-at-requires
 open-at-requires c κs = search needs
 
@@ -25,11 +28,14 @@ same-length-2 c = search needs
 
 returns : tie.Need-returns
 returns c =
-    λ target n o f h m.
-    let a = c .before .before .before .before .before .before .before .before .before .before .before .before .before .args in
-    let found = needed-is (a .i) (a .numbers .now) (a .texts .now) (c .before .before .before .before .before .before .before .before .before .reply-at .ensures) in
-    ask-opens (a .due) (askedBy target (a .sender) (a .receiver)) (entryAt (a .i) (a .numbers .now) (a .texts .now)) (entry-is n (a .i) (a .numbers .now) (a .texts .now) h) f (a .opened) o found
-    (sym (c .before .before .before .before .before .before .before .before .opens .ensures) ∙ c .before .before .before .before .before .before .before .if1 .taken) (c .before .before .before .before .open-at .ensures n h m)
+    λ target n w o f h m.
+    let at-wants-all = c .before .before .before .before .before in
+    let at-if1 = at-wants-all .before .before .before in
+    let a = at-if1 .before .before .before .before .before .before .args in
+    let found = needed-is (a .i) (a .numbers .now) (a .texts .now) (at-if1 .before .before .reply-at .ensures) in
+    ask-opens (a .due) (askedBy target (a .sender) (a .receiver)) (entryAt (a .i) (a .numbers .now) (a .texts .now)) (entry-is n (a .i) (a .numbers .now) (a .texts .now) h) f (a .opened)
+    (record { every = at-wants-all .wants-all .ensures target w; reply = o .reply; answer = o .answer }) found
+    (sym (at-if1 .before .opens .ensures) ∙ at-if1 .if1 .taken) (c .before .before .before .before .open-at .ensures n h m)
 
 asked-reply-requires : tie.Need-asked-reply-requires
 asked-reply-requires c κs = search needs
@@ -42,7 +48,7 @@ same-length-3 c = search needs
 
 returns-2 : tie.Need-returns-2
 returns-2 c =
-    λ target n o f h m.
+    λ target n w o f h m.
     let a = c .before .before .before .before .before .before .before .before .before .before .before .args in
     let found = needed-is (a .i) (a .numbers .now) (a .texts .now) (c .before .before .before .before .before .before .before .reply-at .ensures) in
     ask-joins (a .due) (askedBy target (a .sender) (a .receiver)) (entryAt (a .i) (a .numbers .now) (a .texts .now)) (entry-is n (a .i) (a .numbers .now) (a .texts .now) h) f found
@@ -54,6 +60,7 @@ ask-for-spec =
     (tie.spec
     reply-at-requires
     opens-requires
+    wants-all-requires
     open-at-requires
     same-length
     same-length-2

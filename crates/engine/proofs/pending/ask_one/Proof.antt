@@ -11,9 +11,6 @@ use Rattle.engine.proofs.pending.ask_one.Tie as tie
 is-asked-requires : tie.Need-is-asked-requires
 is-asked-requires c κs = search needs
 
-wants-all-requires : tie.Need-wants-all-requires
-wants-all-requires c κs = search needs
-
 ask-for-requires : tie.Need-ask-for-requires
 ask-for-requires c κs = search needs
 
@@ -26,10 +23,9 @@ same-length-2 c = search needs
 returns : tie.Need-returns
 returns c =
     λ n h m.
-    let asking = c .before .before .before .before .before .before .before in
-    let s = asking .before .before .before .before .before .before .before .before in
-    let o = s .pre .3 in
-    c .before .before .before .before .ask-for .ensures (s .args .target .now) n (record { every = asking .wants-all .ensures _ (s .pre .2); reply = o .reply; answer = o .answer }) (sym (asking .before .before .is-asked .ensures) ∙ asking .before .if1 .taken) h m
+    let at-if1 = c .before .before .before .before .before .before .before in
+    let s = at-if1 .before .before .before .before .before .before .before in
+    c .before .before .before .before .ask-for .ensures (s .args .target .now) n (s .pre .2) (s .pre .3) (sym (at-if1 .before .is-asked .ensures) ∙ at-if1 .if1 .taken) h m
 
 same-length-3 : tie.Need-same-length-3
 same-length-3 c = search needs
@@ -48,7 +44,6 @@ ask-one-spec =
     tie.close
     (tie.spec
     is-asked-requires
-    wants-all-requires
     ask-for-requires
     same-length
     same-length-2

@@ -8,6 +8,8 @@ kohlsilkd: announces services to the network by SSDP, answers searches for them,
   --advertise NAME TYPE LOCATION   announce a service: its unique name (USN), its type, and the URL of its description, whose
                                    host becomes the address that an announcement is sent from (up to 8 times)
   --subscribe TYPE                 search for a type and print what is found; ssdp:all finds everything (up to 4 times)
+  --interface NAME                 serve on this link alone, as eth0 (or on each that is named so; 3 links are served at most). Otherwise on those
+                                   that have an IPv4 address, ports of bridges and bonds apart: first those that are up
   --seconds N                      end after N seconds; otherwise on SIGINT or SIGTERM
   --seed N                         the seed of the delays, instead of a random one
   --ttl N                          how many networks a datagram to the group may cross (4)
@@ -23,10 +25,12 @@ pub struct Advertisement {
     pub location: Vec<u8>,
 }
 
-#[derive(Debug, PartialEq, Eq)]
+#[derive(Debug, Default, PartialEq, Eq)]
 pub struct Arguments {
     pub advertisements: Vec<Advertisement>,
     pub subscriptions: Vec<Vec<u8>>,
+    /// The links to serve on, by name; all, if empty.
+    pub interfaces: Vec<String>,
     pub seconds: Option<u64>,
     pub seed: Option<u32>,
     pub ttl: u8,
@@ -37,13 +41,14 @@ impl Arguments {
     /// Reads the words behind the program's name; an error says which word is wrong.
     pub fn read(words: impl IntoIterator<Item = OsString>) -> Result<Arguments, String> {
         let mut words = words.into_iter();
-        let mut read = Arguments { advertisements: vec![], subscriptions: vec![], seconds: None, seed: None, ttl: 4, log_records: false };
+        let mut read = Arguments { ttl: 4, ..Arguments::default() };
         while let Some(word) = words.next() {
             let option = word.to_string_lossy().into_owned();
             let mut next = || words.next().map(OsString::into_vec).ok_or(format!("{option} wants more words"));
             match option.as_str() {
                 "--advertise" => read.advertisements.push(Advertisement { name: next()?, service_type: next()?, location: next()? }),
                 "--subscribe" => read.subscriptions.push(next()?),
+                "--interface" => read.interfaces.push(String::from_utf8_lossy(&next()?).into_owned()),
                 "--seconds" => read.seconds = Some(number(&option, &next()?)?),
                 "--seed" => read.seed = Some(number(&option, &next()?)?),
                 "--ttl" => read.ttl = number(&option, &next()?)?,
@@ -73,10 +78,12 @@ mod tests {
 
     #[test]
     fn all_options() {
-        let read = read("--advertise u t http://h/ --subscribe a --subscribe b --seed 7 --ttl 2 --seconds 9 --log-records").unwrap();
+        let read = read("--advertise u t http://h/ --subscribe a --subscribe b --interface e0 --seed 7 --ttl 2 --seconds 9 --log-records")
+            .unwrap();
         let [u, t, l] = ["u", "t", "http://h/"].map(|text| text.as_bytes().to_vec());
         assert_eq!(read.advertisements, [Advertisement { name: u, service_type: t, location: l }]);
         assert_eq!(read.subscriptions, [b"a", b"b"]);
+        assert_eq!(read.interfaces, ["e0"]);
         assert_eq!((read.seed, read.ttl, read.seconds, read.log_records), (Some(7), 2, Some(9), true));
     }
 

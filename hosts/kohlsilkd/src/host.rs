@@ -1,27 +1,25 @@
 //! The engine among its sockets: each call's records are sent, its counts added up, its refusal reported.
 use crate::arguments::Arguments;
 use crate::links::Links;
-use crate::netlink::News;
 use crate::print::{notification, record, report, say, Counts, Text};
+use crate::settle::Surroundings;
 use crate::socket::{Received, Socket};
-use kohlsilk::{flags, Answer, Engine, Record, Refusal, GROUP, OUTBOX_SIZE};
+use kohlsilk::{Answer, Engine, Record, Refusal, GROUP, OUTBOX_SIZE};
 use std::collections::BTreeMap;
 use std::fmt::Display;
 use std::io;
-use std::net::Ipv4Addr;
 use std::time::Instant;
 
 pub struct Host {
-    engine: Engine,
-    outbox: Vec<u8>,
+    pub engine: Engine,
+    pub outbox: Vec<u8>,
     pub sockets: Sockets,
-    links: Links,
+    pub links: Links,
+    pub around: Surroundings,
     counts: Counts,
     subscriptions: Vec<Vec<u8>>,
     start: Instant,
     log_records: bool,
-    /// News was refused that may be accepted once a link or an address has gone.
-    refused_news: bool,
 }
 
 /// `group` hears the group and speaks for the services. `search` asks: answers come to its own port, which no other program shares.
@@ -42,17 +40,17 @@ impl Sockets {
 }
 
 impl Host {
-    pub fn new(seed: u32, sockets: Sockets, log_records: bool) -> Result<Host, Refusal> {
+    pub fn new(seed: u32, sockets: Sockets, arguments: &Arguments) -> Result<Host, Refusal> {
         Ok(Host {
             engine: Engine::new(seed, 0)?,
             outbox: vec![0; OUTBOX_SIZE],
             sockets,
             links: Links::default(),
+            around: Surroundings::new(&arguments.interfaces),
             counts: Counts::default(),
             subscriptions: vec![],
             start: Instant::now(),
-            log_records,
-            refused_news: false,
+            log_records: arguments.log_records,
         })
     }
 
@@ -116,96 +114,8 @@ impl Host {
         }
     }
 
-    /// Takes news of the network in, and says whether a survey is needed after it.
-    pub fn on_news(&mut self, news: &News) -> bool {
-        match news {
-            News::Link { index, flags } => self.on_link(*index, *flags),
-            News::LinkGone { index } => self.on_link_gone(*index),
-            News::Address { index, address } => self.on_address(*index, address),
-            News::AddressGone { index, address } => self.on_address_gone(*index, address),
-            News::ListEnd { whole } => self.on_list_end(*whole),
-        }
-    }
-
-    /// A survey begins.
-    pub fn begin_survey(&mut self) {
-        self.refused_news = false;
-        self.links.begin_survey();
-    }
-
-    /// A link that is new and was accepted needs its addresses, which may have been told of before it was.
-    fn on_link(&mut self, index: u32, link_flags: u32) -> bool {
-        self.links.see(index, &[]);
-        let multicast = link_flags & flags::MULTICAST != 0;
-        let new = multicast && !self.links.holds(index);
-        let joined = if new { self.sockets.group.join(index) } else { Ok(()) };
-        let outcome = joined.as_ref().map_or_else(error_number, |()| 0);
-        let answer = self.engine.new_link(index, link_flags, outcome, &mut self.outbox);
-        let up = link_flags & flags::UP != 0 && link_flags & flags::RUNNING != 0;
-        if answer.is_ok() && multicast {
-            self.links.note_link(index, up);
-        }
-        let accepted = self.answered(answer, Some(index), || format!("link {index}")).is_some();
-        self.refused_news |= !accepted;
-        if new && accepted {
-            say(format_args!("link {index} joined, {}", if up { "up" } else { "down" }));
-        }
-        if new && !accepted && joined.is_ok() {
-            let _ = self.sockets.group.leave(index);
-        }
-        new && accepted
-    }
-
-    fn on_link_gone(&mut self, index: u32) -> bool {
-        let held = self.links.holds(index);
-        let left = if held { self.sockets.group.leave(index) } else { Ok(()) };
-        let outcome = left.as_ref().map_or_else(error_number, |()| 0);
-        let answer = self.engine.deleted_link(index, outcome);
-        self.links.forget_link(index);
-        if let Some(answer) = self.answered(answer, None, || format!("link {index} gone")) {
-            if answer.leave != 0 {
-                report(format_args!("leaving the group on link {index}: {}", io::Error::from_raw_os_error(answer.leave as i32)));
-            }
-        }
-        held && self.refused_news
-    }
-
-    fn on_address(&mut self, index: u32, address: &[u8]) -> bool {
-        self.links.see(index, address);
-        let answer = self.engine.new_address(index, address, &mut self.outbox);
-        if answer.is_ok() {
-            self.links.note_address(index, address);
-        }
-        let accepted = self.answered(answer, Some(index), || format!("address {} on link {index}", dotted(address))).is_some();
-        self.refused_news |= !accepted;
-        false
-    }
-
-    fn on_address_gone(&mut self, index: u32, address: &[u8]) -> bool {
-        let answer = self.engine.deleted_address(index, address);
-        self.links.forget_address(index, address);
-        self.answered(answer, None, || format!("address {} gone from link {index}", dotted(address)));
-        self.links.holds(index) && self.refused_news
-    }
-
-    /// What a whole survey did not find has gone, its news having been lost.
-    fn on_list_end(&mut self, whole: bool) -> bool {
-        if !whole {
-            return true;
-        }
-        let (links, addresses) = self.links.unseen();
-        let mut survey = false;
-        for index in links {
-            survey |= self.on_link_gone(index);
-        }
-        for (index, address) in addresses {
-            survey |= self.on_address_gone(index, &address);
-        }
-        survey
-    }
-
     /// Reports a refusal, or sends the records of an answer: to the group on `link`, if the call was about one.
-    fn answered<T: Display>(&mut self, answer: Result<Answer, Refusal>, link: Option<u32>, what: impl Fn() -> T) -> Option<Answer> {
+    pub fn answered<T: Display>(&mut self, answer: Result<Answer, Refusal>, link: Option<u32>, what: impl Fn() -> T) -> Option<Answer> {
         let answer = match answer {
             Ok(answer) => answer,
             Err(refusal) => {
@@ -232,10 +142,6 @@ impl Host {
 }
 
 /// The number of an error as an outcome, which is not 0.
-fn error_number(error: &io::Error) -> u32 {
+pub fn error_number(error: &io::Error) -> u32 {
     error.raw_os_error().map_or(1, |number| number as u32)
-}
-
-fn dotted(address: &[u8]) -> String {
-    <[u8; 4]>::try_from(address).map_or_else(|_| format!("{address:?}"), |octets| Ipv4Addr::from(octets).to_string())
 }

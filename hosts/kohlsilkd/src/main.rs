@@ -1,9 +1,12 @@
 //! `kohlsilkd`: a host for the engine on Linux. It waits for datagrams, for news of the network, and for the engine's own instants.
 mod arguments;
+mod choose;
 mod host;
 mod links;
 mod netlink;
+mod network;
 mod print;
+mod settle;
 mod socket;
 mod wait;
 
@@ -50,7 +53,7 @@ fn serve(arguments: &Arguments) -> io::Result<bool> {
     let mut netlink = Netlink::open()?;
     let sockets = Sockets::open(arguments.ttl)?;
     let seed = arguments.seed.map_or_else(random_seed, Ok)?;
-    let mut host = Host::new(seed, sockets, arguments.log_records).map_err(io::Error::other)?;
+    let mut host = Host::new(seed, sockets, arguments).map_err(io::Error::other)?;
     let accepted = host.begin(arguments);
     survey(&mut host, &mut netlink)?;
     let mut buffer = vec![0; 1 << 16];
@@ -95,6 +98,7 @@ fn take_news(host: &mut Host, netlink: &mut Netlink) -> io::Result<()> {
     if again || netlink.wants_survey() {
         survey(host, netlink)?;
     }
+    host.settle();
     Ok(())
 }
 

@@ -3,24 +3,28 @@ use crate::socket::checked;
 use std::collections::VecDeque;
 use std::io;
 use std::mem::{size_of_val, zeroed};
+use std::net::Ipv4Addr;
 use std::os::fd::{AsRawFd, FromRawFd, OwnedFd, RawFd};
 
 #[derive(Clone, Debug, PartialEq, Eq)]
 pub enum News {
     Link {
         index: u32,
+        name: String,
         flags: u32,
+        /// Its packets are those of a bridge, a bond or a team.
+        is_port: bool,
     },
     LinkGone {
         index: u32,
     },
     Address {
         index: u32,
-        address: Vec<u8>,
+        address: Ipv4Addr,
     },
     AddressGone {
         index: u32,
-        address: Vec<u8>,
+        address: Ipv4Addr,
     },
     /// The list that was asked for is at its end; it may have holes if something changed meanwhile.
     ListEnd {
@@ -168,7 +172,10 @@ fn read(message: &Message) -> Option<News> {
     let (body, family) = (message.body, i32::from(*message.body.first()?));
     let index = number32(body, 4)?;
     match message.kind {
-        libc::RTM_NEWLINK if family == libc::AF_UNSPEC => Some(News::Link { index, flags: number32(body, 8)? }),
+        libc::RTM_NEWLINK if family == libc::AF_UNSPEC => {
+            let attributes = body.get(16..)?;
+            Some(News::Link { index, name: name(attributes), flags: number32(body, 8)?, is_port: is_port(attributes) })
+        }
         libc::RTM_DELLINK if family == libc::AF_UNSPEC => Some(News::LinkGone { index }),
         libc::RTM_NEWADDR => Some(News::Address { index, address: address(body.get(8..)?)? }),
         libc::RTM_DELADDR => Some(News::AddressGone { index, address: address(body.get(8..)?)? }),
@@ -176,16 +183,30 @@ fn read(message: &Message) -> Option<News> {
     }
 }
 
+/// A link's name, which ends in a zero byte.
+fn name(attributes: &[u8]) -> String {
+    let name = attribute(attributes, libc::IFLA_IFNAME).unwrap_or_default();
+    String::from_utf8_lossy(name.strip_suffix(&[0]).unwrap_or(name)).into_owned()
+}
+
+/// Whether a link hands its packets on to the link that it is part of. A member of a VRF keeps its packets and its addresses.
+fn is_port(attributes: &[u8]) -> bool {
+    let info = attribute(attributes, libc::IFLA_LINKINFO).unwrap_or_default();
+    attribute(info, libc::IFLA_INFO_SLAVE_KIND).is_some_and(|kind| !kind.starts_with(b"vrf\0"))
+}
+
 /// The host's own address among the attributes: on a link between two points the other kind is the far end's.
-fn address(attributes: &[u8]) -> Option<Vec<u8>> {
-    attribute(attributes, libc::IFA_LOCAL).or_else(|| attribute(attributes, libc::IFA_ADDRESS)).map(<[u8]>::to_vec)
+fn address(attributes: &[u8]) -> Option<Ipv4Addr> {
+    let octets = attribute(attributes, libc::IFA_LOCAL).or_else(|| attribute(attributes, libc::IFA_ADDRESS))?;
+    Some(<[u8; 4]>::try_from(octets).ok()?.into())
 }
 
 fn attribute(mut rest: &[u8], kind: u16) -> Option<&[u8]> {
     loop {
         let len = number16(rest, 0)? as usize;
         let value = rest.get(4..len)?;
-        if number16(rest, 2)? == kind {
+        // The two highest bits of a kind are flags.
+        if number16(rest, 2)? & 0x3fff == kind {
             return Some(value);
         }
         rest = rest.get(len.next_multiple_of(4)..)?;
@@ -208,7 +229,25 @@ mod tests {
     }
 
     fn attribute_of(kind: u16, value: &[u8]) -> Vec<u8> {
-        [&(4 + value.len() as u16).to_ne_bytes()[..], &kind.to_ne_bytes(), value].concat()
+        let mut bytes = [&(4 + value.len() as u16).to_ne_bytes()[..], &kind.to_ne_bytes(), value].concat();
+        bytes.resize(bytes.len().next_multiple_of(4), 0);
+        bytes
+    }
+
+    /// News of link 7 with a name, and of what it is a port.
+    fn named_link(name: &str, port_of: &[u8]) -> Vec<u8> {
+        let name = attribute_of(libc::IFLA_IFNAME, format!("{name}\0").as_bytes());
+        let info = attribute_of(libc::IFLA_LINKINFO | 0x8000, &attribute_of(libc::IFLA_INFO_SLAVE_KIND, port_of));
+        message(libc::RTM_NEWLINK, &[link(0, 7, 0x1043), name, if port_of.is_empty() { vec![] } else { info }].concat())
+    }
+
+    #[test]
+    fn names_and_ports() {
+        let news = |is_port| News::Link { index: 7, name: "eth0".into(), flags: 0x1043, is_port };
+        assert_eq!(read_all(&named_link("eth0", b"")), [news(false)]);
+        assert_eq!(read_all(&named_link("eth0", b"bridge\0")), [news(true)]);
+        assert_eq!(read_all(&named_link("eth0", b"bond\0")), [news(true)]);
+        assert_eq!(read_all(&named_link("eth0", b"vrf\0")), [news(false)]);
     }
 
     fn read_all(bytes: &[u8]) -> Vec<News> {
@@ -220,9 +259,9 @@ mod tests {
         let peer = attribute_of(libc::IFA_ADDRESS, &[10, 0, 0, 2]);
         let own = attribute_of(libc::IFA_LOCAL, &[10, 0, 0, 1]);
         let body = [&[2, 24, 0, 0][..], &7u32.to_ne_bytes(), &peer, &own].concat();
-        let bytes = [message(libc::RTM_NEWLINK, &link(0, 7, 0x1043)), message(libc::RTM_NEWADDR, &body)].concat();
-        let address = vec![10, 0, 0, 1];
-        assert_eq!(read_all(&bytes), [News::Link { index: 7, flags: 0x1043 }, News::Address { index: 7, address }]);
+        let bytes = [named_link("eth0", b""), message(libc::RTM_NEWADDR, &body)].concat();
+        let link = News::Link { index: 7, name: "eth0".into(), flags: 0x1043, is_port: false };
+        assert_eq!(read_all(&bytes), [link, News::Address { index: 7, address: [10, 0, 0, 1].into() }]);
     }
 
     #[test]

@@ -1,53 +1,48 @@
 //! The engine among its sockets: each call's records are sent, its counts added up, its refusal reported.
 use crate::arguments::Arguments;
 use crate::links::Links;
-use crate::print::{notification, record, report, say, Counts, Text};
+use crate::print::{self, notification, report, say, Counts, Text};
 use crate::settle::Surroundings;
-use crate::socket::{Received, Socket};
+use crate::socket::Received;
+use crate::sockets::Sockets;
+use crate::traffic::Traffic;
 use kohlsilk::{Answer, Engine, Record, Refusal, GROUP, OUTBOX_SIZE};
 use std::collections::BTreeMap;
 use std::fmt::Display;
 use std::io;
+use std::net::Ipv4Addr;
+use std::rc::Rc;
 use std::time::Instant;
 
 pub struct Host {
     pub engine: Engine,
     pub outbox: Vec<u8>,
-    pub sockets: Sockets,
+    pub ttl: u8,
+    /// Of each link that is held.
+    pub sockets: BTreeMap<u32, Rc<Sockets>>,
     pub links: Links,
     pub around: Surroundings,
     counts: Counts,
+    /// Of each link that is held, and of all that were held before.
+    pub traffic: BTreeMap<u32, Traffic>,
+    pub earlier: Traffic,
     subscriptions: Vec<Vec<u8>>,
     start: Instant,
     log_records: bool,
 }
 
-/// `group` hears the group and speaks for the services. `search` asks: answers come to its own port, which no other program shares.
-pub struct Sockets {
-    pub group: Socket,
-    pub search: Socket,
-}
-
-impl Sockets {
-    pub fn open(ttl: u8) -> io::Result<Sockets> {
-        Ok(Sockets { group: Socket::bound(GROUP.port(), ttl)?, search: Socket::bound(0, ttl)? })
-    }
-
-    fn send(&self, record: &Record, link: u32) -> io::Result<()> {
-        let socket = if record.message.starts_with(b"M-SEARCH ") { &self.search } else { &self.group };
-        socket.send(record, link)
-    }
-}
-
 impl Host {
-    pub fn new(seed: u32, sockets: Sockets, arguments: &Arguments) -> Result<Host, Refusal> {
+    pub fn new(seed: u32, arguments: &Arguments) -> Result<Host, Refusal> {
         Ok(Host {
             engine: Engine::new(seed, 0)?,
             outbox: vec![0; OUTBOX_SIZE],
-            sockets,
+            ttl: arguments.ttl,
+            sockets: BTreeMap::new(),
             links: Links::default(),
             around: Surroundings::new(&arguments.interfaces),
             counts: Counts::default(),
+            traffic: BTreeMap::new(),
+            earlier: Traffic::default(),
             subscriptions: vec![],
             start: Instant::now(),
             log_records: arguments.log_records,
@@ -87,6 +82,17 @@ impl Host {
             let answer = self.engine.deadvertise(&service.name, &mut self.outbox);
             self.answered(answer, None, || format!("deadvertise {}", Text(&service.name)));
         }
+        self.say_counts();
+    }
+
+    /// Prints what was counted of each link, and the ledger.
+    pub fn say_counts(&self) {
+        for (index, traffic) in &self.traffic {
+            say(format_args!("link {}: {traffic}", self.around.name(*index)));
+        }
+        if self.earlier != Traffic::default() {
+            say(format_args!("links left: {}", self.earlier));
+        }
         self.counts.say(self.engine.waiting());
     }
 
@@ -124,20 +130,48 @@ impl Host {
             }
         };
         self.counts.add(&answer);
+        // What is sent is read in the outbox while the counts change: for that time it is taken out of the host.
+        let outbox = std::mem::take(&mut self.outbox);
         let mut turns = BTreeMap::new();
-        for sent in answer.records_in(&self.outbox) {
-            let to_group = sent.destination == GROUP;
+        for sent in answer.records_in(&outbox) {
             let turn = turns.entry(sent.source).or_insert(0);
-            let link = if to_group { link.unwrap_or_else(|| self.links.link_of(sent.source, *turn)) } else { 0 };
-            *turn += usize::from(to_group);
-            if self.log_records {
-                say(format_args!("{}", record(&sent)));
-            }
-            if let Err(error) = self.sockets.send(&sent, link) {
-                report(format_args!("{}: from {} to {}: {error}", what(), sent.source, sent.destination));
+            self.send(&sent, link.unwrap_or_else(|| self.link_for(sent.source, *turn)), &what);
+            *turn += usize::from(sent.destination == GROUP);
+        }
+        self.outbox = outbox;
+        Some(answer)
+    }
+
+    /// The link by whose sockets a record from this source goes. A search may have reached an address that the engine does not hold: then the
+    /// link that has it.
+    fn link_for(&self, source: Ipv4Addr, turn: usize) -> u32 {
+        let has = |index: &u32| self.around.network.links.get(index).is_some_and(|link| link.addresses.contains_key(&source));
+        match self.links.link_of(source, turn) {
+            0 => self.sockets.keys().copied().find(has).unwrap_or(0),
+            index => index,
+        }
+    }
+
+    /// Sends a record by the sockets of a link, and counts it. A full queue is nothing to report: it is counted.
+    fn send<T: Display>(&mut self, record: &Record, link: u32, what: &impl Fn() -> T) {
+        if self.log_records {
+            say(format_args!("{}", print::record(record)));
+        }
+        let out_on = if record.destination == GROUP { link } else { 0 };
+        let sent = match self.sockets.get(&link) {
+            Some(sockets) => sockets.send(record, out_on),
+            None => Err(io::ErrorKind::NotConnected.into()),
+        };
+        let traffic = self.traffic.get_mut(&link).unwrap_or(&mut self.earlier);
+        match sent {
+            Ok(()) => traffic.sent += 1,
+            Err(error) => {
+                traffic.not_sent += 1;
+                if error.kind() != io::ErrorKind::WouldBlock && error.raw_os_error() != Some(libc::ENOBUFS) {
+                    report(format_args!("{}: from {} to {}: {error}", what(), record.source, record.destination));
+                }
             }
         }
-        Some(answer)
     }
 }
 

@@ -8,10 +8,13 @@ mod network;
 mod print;
 mod settle;
 mod socket;
+mod sockets;
+mod traffic;
 mod wait;
 
 use arguments::{Arguments, USAGE};
-use host::{Host, Sockets};
+use host::Host;
+use kohlsilk::GROUP;
 use netlink::Netlink;
 use print::{report, say};
 use socket::Socket;
@@ -51,32 +54,37 @@ fn main() -> ExitCode {
 fn serve(arguments: &Arguments) -> io::Result<bool> {
     let signals = Signals::open()?;
     let mut netlink = Netlink::open()?;
-    let sockets = Sockets::open(arguments.ttl)?;
+    // Tried before any link is there: without the port nothing can be served.
+    Socket::bound(GROUP.port(), arguments.ttl)?;
     let seed = arguments.seed.map_or_else(random_seed, Ok)?;
-    let mut host = Host::new(seed, sockets, arguments).map_err(io::Error::other)?;
+    let mut host = Host::new(seed, arguments).map_err(io::Error::other)?;
     let accepted = host.begin(arguments);
     survey(&mut host, &mut netlink)?;
     let mut buffer = vec![0; 1 << 16];
     let end = arguments.seconds.map_or(u64::MAX, |seconds| seconds.saturating_mul(1000));
-    while host.now() < end {
-        let descriptors = [signals.as_raw_fd(), netlink.as_raw_fd(), host.sockets.group.as_raw_fd(), host.sockets.search.as_raw_fd()];
-        let [signalled, news, group, search] = wait(descriptors, host.until_poll().min(end - host.now().min(end)))?;
-        if signalled {
-            break;
-        }
-        if news {
-            take_news(&mut host, &mut netlink)?;
-        }
-        if group {
-            take_datagrams(&mut host, |host| &host.sockets.group, &mut buffer);
-        }
-        if search {
-            take_datagrams(&mut host, |host| &host.sockets.search, &mut buffer);
-        }
-        host.on_time();
-    }
+    while host.now() < end && turn(&mut host, &signals, &mut netlink, end, &mut buffer)? {}
     host.end(arguments);
     Ok(accepted)
+}
+
+/// Waits for what comes next, and takes it in. Says whether the program goes on.
+fn turn(host: &mut Host, signals: &Signals, netlink: &mut Netlink, end: u64, buffer: &mut [u8]) -> io::Result<bool> {
+    let links: Vec<_> = host.sockets.values().cloned().collect();
+    let sockets: Vec<&Socket> = links.iter().flat_map(|sockets| sockets.both()).collect();
+    let mut descriptors = vec![signals.as_raw_fd(), netlink.as_raw_fd()];
+    descriptors.extend(sockets.iter().map(|socket| socket.as_raw_fd()));
+    let ready = wait(&descriptors, host.until_poll().min(end - host.now().min(end)))?;
+    if ready[0] {
+        return Ok(false);
+    }
+    if ready[1] {
+        take_news(host, netlink)?;
+    }
+    for (socket, _) in sockets.iter().zip(&ready[2..]).filter(|(_, ready)| **ready) {
+        take_datagrams(host, socket, buffer);
+    }
+    host.on_time();
+    Ok(true)
 }
 
 fn survey(host: &mut Host, netlink: &mut Netlink) -> io::Result<()> {
@@ -102,9 +110,9 @@ fn take_news(host: &mut Host, netlink: &mut Netlink) -> io::Result<()> {
     Ok(())
 }
 
-fn take_datagrams(host: &mut Host, socket: fn(&Host) -> &Socket, buffer: &mut [u8]) {
+fn take_datagrams(host: &mut Host, socket: &Socket, buffer: &mut [u8]) {
     for _ in 0..AT_A_TIME {
-        match socket(host).receive(buffer) {
+        match socket.receive(buffer) {
             Ok(received) => host.on_datagram(&received, &buffer[..received.len]),
             Err(error) if matches!(error.kind(), WouldBlock | Interrupted) => return,
             Err(error) => {

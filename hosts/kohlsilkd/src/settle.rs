@@ -5,10 +5,13 @@ use crate::host::{error_number, Host};
 use crate::netlink::News;
 use crate::network::{Named, Network};
 use crate::print::{report, say};
+use crate::sockets::Sockets;
+use crate::traffic::Traffic;
 use kohlsilk::ADDRESSES;
 use std::collections::{BTreeMap, BTreeSet};
 use std::io;
 use std::net::Ipv4Addr;
+use std::rc::Rc;
 
 /// What the machine has, what the user has chosen of it, and what was said of the rest.
 #[derive(Default)]
@@ -31,9 +34,15 @@ impl Surroundings {
         Surroundings { names: names.to_vec(), ..Surroundings::default() }
     }
 
-    fn name(&self, index: u32) -> String {
+    pub fn name(&self, index: u32) -> String {
         let name = self.network.links.get(&index).map_or("link", |link| &link.name);
         Named(name, index).to_string()
+    }
+
+    /// A link could not be joined. It is not held.
+    fn fails(&mut self, index: u32, why: String) -> bool {
+        self.failed.insert(index, why);
+        false
     }
 
     /// Says of each link that has no place why, once. The loopback link, and what the user has not chosen, go without saying.
@@ -128,15 +137,16 @@ impl Host {
         let name = self.around.name(index);
         let link = &self.around.network.links[&index];
         let (flags, up) = (link.flags, link.is_up());
-        let joined = self.sockets.group.join(index);
-        let outcome = joined.as_ref().map_or_else(error_number, |()| 0);
+        let opened = Sockets::open(index, self.ttl);
+        let outcome = opened.as_ref().map_or_else(error_number, |_| 0);
         let answer = self.engine.new_link(index, flags, outcome, &mut self.outbox);
-        let refusal = answer.as_ref().err().map(|refusal| refusal.to_string());
-        if let Some(why) = joined.as_ref().err().map(|error| format!("the group cannot be joined on it: {error}")).or(refusal) {
-            self.around.failed.insert(index, why);
-            let _ = self.sockets.group.leave(index);
-            return false;
-        }
+        let sockets = match (opened, &answer) {
+            (Ok(sockets), Ok(_)) => sockets,
+            (Err(error), _) => return self.around.fails(index, format!("the group cannot be joined on it: {error}")),
+            (_, Err(refusal)) => return self.around.fails(index, refusal.to_string()),
+        };
+        self.sockets.insert(index, Rc::new(sockets));
+        self.traffic.insert(index, Traffic::default());
         self.links.note_link(index, up);
         self.answered(answer, Some(index), || format!("link {name}"));
         say(format_args!("link {name} joined, {}", if up { "up" } else { "down" }));
@@ -149,10 +159,11 @@ impl Host {
             return;
         }
         let name = self.around.name(index);
-        let left = self.sockets.group.leave(index);
+        let left = self.sockets.remove(&index).map_or(Ok(()), |sockets| sockets.group.leave(index));
         let outcome = left.as_ref().map_or_else(error_number, |()| 0);
         let answer = self.engine.deleted_link(index, outcome);
         self.links.forget_link(index);
+        self.earlier.add(&self.traffic.remove(&index).unwrap_or_default());
         self.around.said_addresses.remove(&index);
         say(format_args!("link {name} left"));
         if let Some(answer) = self.answered(answer, None, || format!("link {name} gone")) {

@@ -66,7 +66,8 @@ impl Socket {
         Ok(Received { len: len as usize, sender: SocketAddrV4::new(address, u16::from_be(sender.sin_port)), receiver })
     }
 
-    /// Sends a record from its source. `link` is the one that it goes out on, or 0 for the one that the routes give.
+    /// Sends a record from its source. `link` is the one that it goes out on, or 0 for the one that the routes give. It does not wait: where the
+    /// kernel has no room for it, because a queue is full or an address is being looked for, it is not sent.
     pub fn send(&self, record: &Record, link: u32) -> io::Result<()> {
         let mut destination = raw_address(record.destination);
         let mut control = Control([0; 64]);
@@ -85,7 +86,7 @@ impl Socket {
             (*header).cmsg_len = libc::CMSG_LEN(size_of_val(&info) as u32) as _;
             libc::CMSG_DATA(header).cast::<libc::in_pktinfo>().write_unaligned(info);
             message.msg_controllen = libc::CMSG_SPACE(size_of_val(&info) as u32) as _;
-            libc::sendmsg(self.as_raw_fd(), &message, 0)
+            libc::sendmsg(self.as_raw_fd(), &message, libc::MSG_DONTWAIT)
         };
         if sent < 0 {
             return Err(io::Error::last_os_error());

@@ -5,13 +5,13 @@ use std::mem::MaybeUninit;
 use std::os::fd::{AsRawFd, FromRawFd, OwnedFd, RawFd};
 
 /// Waits until one of the descriptors can be read, at most so many milliseconds, and says which can.
-pub fn wait<const N: usize>(descriptors: [RawFd; N], milliseconds: u64) -> io::Result<[bool; N]> {
-    let mut polled = descriptors.map(|fd| libc::pollfd { fd, events: libc::POLLIN, revents: 0 });
+pub fn wait(descriptors: &[RawFd], milliseconds: u64) -> io::Result<Vec<bool>> {
+    let mut polled: Vec<_> = descriptors.iter().map(|fd| libc::pollfd { fd: *fd, events: libc::POLLIN, revents: 0 }).collect();
     let milliseconds = milliseconds.min(i32::MAX as u64) as i32;
     // SAFETY: the array is writable for its length.
-    match checked(unsafe { libc::poll(polled.as_mut_ptr(), N as _, milliseconds) }) {
+    match checked(unsafe { libc::poll(polled.as_mut_ptr(), polled.len() as _, milliseconds) }) {
         Err(error) if error.kind() != io::ErrorKind::Interrupted => Err(error),
-        _ => Ok(polled.map(|polled| polled.revents != 0)),
+        _ => Ok(polled.iter().map(|polled| polled.revents != 0).collect()),
     }
 }
 

@@ -3,7 +3,7 @@ use crate::arguments::Arguments;
 use crate::links::Links;
 use crate::print::{self, notification, report, say, Counts, Text};
 use crate::settle::Surroundings;
-use crate::socket::Received;
+use crate::socket::{is_full, Received};
 use crate::sockets::Sockets;
 use crate::traffic::Traffic;
 use kohlsilk::{Answer, Engine, Record, Refusal, GROUP, OUTBOX_SIZE};
@@ -23,9 +23,9 @@ pub struct Host {
     pub links: Links,
     pub around: Surroundings,
     counts: Counts,
-    /// Of each link that is held, and of all that were held before.
+    /// Of each link that is held, and of all others: those that were left, and those that are not served.
     pub traffic: BTreeMap<u32, Traffic>,
-    pub earlier: Traffic,
+    pub other_traffic: Traffic,
     subscriptions: Vec<Vec<u8>>,
     start: Instant,
     log_records: bool,
@@ -42,7 +42,7 @@ impl Host {
             around: Surroundings::new(&arguments.interfaces),
             counts: Counts::default(),
             traffic: BTreeMap::new(),
-            earlier: Traffic::default(),
+            other_traffic: Traffic::default(),
             subscriptions: vec![],
             start: Instant::now(),
             log_records: arguments.log_records,
@@ -87,11 +87,12 @@ impl Host {
 
     /// Prints what was counted of each link, and the ledger.
     pub fn say_counts(&self) {
-        for (index, traffic) in &self.traffic {
+        for (index, sockets) in &self.sockets {
+            let traffic = Traffic { dropped: sockets.dropped(), ..self.traffic[index] };
             say(format_args!("link {}: {traffic}", self.around.name(*index)));
         }
-        if self.earlier != Traffic::default() {
-            say(format_args!("links left: {}", self.earlier));
+        if self.other_traffic != Traffic::default() {
+            say(format_args!("other links: {}", self.other_traffic));
         }
         self.counts.say(self.engine.waiting());
     }
@@ -106,7 +107,8 @@ impl Host {
     }
 
     pub fn on_datagram(&mut self, received: &Received, datagram: &[u8]) {
-        let Received { sender, receiver, .. } = *received;
+        let Received { sender, receiver, link, .. } = *received;
+        self.traffic_of(link).heard += 1;
         let answer = self.engine.on_data(self.now(), sender, receiver, datagram);
         let Some(answer) = self.answered(answer, None, || format!("datagram from {sender}")) else { return };
         if let (1.., Ok(message)) = (answer.told, kohlsilk::parse(datagram)) {
@@ -142,6 +144,10 @@ impl Host {
         Some(answer)
     }
 
+    fn traffic_of(&mut self, link: u32) -> &mut Traffic {
+        self.traffic.get_mut(&link).unwrap_or(&mut self.other_traffic)
+    }
+
     /// The link by whose sockets a record from this source goes. A search may have reached an address that the engine does not hold: then the
     /// link that has it.
     fn link_for(&self, source: Ipv4Addr, turn: usize) -> u32 {
@@ -162,12 +168,12 @@ impl Host {
             Some(sockets) => sockets.send(record, out_on),
             None => Err(io::ErrorKind::NotConnected.into()),
         };
-        let traffic = self.traffic.get_mut(&link).unwrap_or(&mut self.earlier);
+        let traffic = self.traffic_of(link);
         match sent {
             Ok(()) => traffic.sent += 1,
             Err(error) => {
                 traffic.not_sent += 1;
-                if error.kind() != io::ErrorKind::WouldBlock && error.raw_os_error() != Some(libc::ENOBUFS) {
+                if !is_full(&error) {
                     report(format_args!("{}: from {} to {}: {error}", what(), record.source, record.destination));
                 }
             }

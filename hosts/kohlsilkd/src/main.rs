@@ -111,6 +111,7 @@ fn take_news(host: &mut Host, netlink: &mut Netlink) -> io::Result<()> {
 }
 
 fn take_datagrams(host: &mut Host, socket: &Socket, buffer: &mut [u8]) {
+    socket.forget_errors();
     for _ in 0..AT_A_TIME {
         match socket.receive(buffer) {
             Ok(received) => host.on_datagram(&received, &buffer[..received.len]),

@@ -155,15 +155,13 @@ impl Host {
 
     /// Leaves the group on a link that is held and takes it out of the engine, with its addresses.
     fn leave_link(&mut self, index: u32) {
-        if !self.links.holds(index) {
-            return;
-        }
+        let Some(sockets) = self.sockets.remove(&index) else { return };
         let name = self.around.name(index);
-        let left = self.sockets.remove(&index).map_or(Ok(()), |sockets| sockets.group.leave(index));
+        let left = sockets.group.leave(index);
         let outcome = left.as_ref().map_or_else(error_number, |()| 0);
         let answer = self.engine.deleted_link(index, outcome);
         self.links.forget_link(index);
-        self.earlier.add(&self.traffic.remove(&index).unwrap_or_default());
+        self.other_traffic.add(&Traffic { dropped: sockets.dropped(), ..self.traffic.remove(&index).unwrap_or_default() });
         self.around.said_addresses.remove(&index);
         say(format_args!("link {name} left"));
         if let Some(answer) = self.answered(answer, None, || format!("link {name} gone")) {

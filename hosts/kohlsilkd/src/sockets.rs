@@ -21,6 +21,11 @@ impl Sockets {
         [&self.group, &self.search]
     }
 
+    /// How many datagrams the kernel has dropped because they were not read fast enough.
+    pub fn dropped(&self) -> u64 {
+        self.both().iter().map(|socket| u64::from(socket.dropped())).sum()
+    }
+
     /// Sends a record, to the group on `link`, or where the routes lead for 0. It does not wait.
     pub fn send(&self, record: &Record, link: u32) -> io::Result<()> {
         let socket = if record.message.starts_with(b"M-SEARCH ") { &self.search } else { &self.group };

@@ -3,6 +3,10 @@ use std::fmt;
 
 #[derive(Clone, Copy, Debug, Default, PartialEq, Eq)]
 pub struct Traffic {
+    /// Datagrams that were read, of whatever kind, our own notices among them.
+    pub heard: u64,
+    /// Datagrams that the kernel dropped before they were read, since the buffer was full.
+    pub dropped: u64,
     /// Records that the kernel has taken.
     pub sent: u64,
     /// Records that it has not taken: the link's queue was full, or it could not send at all.
@@ -11,6 +15,8 @@ pub struct Traffic {
 
 impl Traffic {
     pub fn add(&mut self, other: &Traffic) {
+        self.heard += other.heard;
+        self.dropped += other.dropped;
         self.sent += other.sent;
         self.not_sent += other.not_sent;
     }
@@ -18,6 +24,7 @@ impl Traffic {
 
 impl fmt::Display for Traffic {
     fn fmt(&self, f: &mut fmt::Formatter<'_>) -> fmt::Result {
-        write!(f, "records sent {}, records not sent {}", self.sent, self.not_sent)
+        let Traffic { heard, dropped, sent, not_sent } = self;
+        write!(f, "heard {heard}, dropped unheard {dropped}, records sent {sent}, records not sent {not_sent}")
     }
 }

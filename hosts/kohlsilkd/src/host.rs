@@ -1,6 +1,7 @@
 //! The engine among its sockets: each call's records are sent, its counts added up, its refusal reported.
 use crate::arguments::Arguments;
 use crate::links::Links;
+use crate::output;
 use crate::print::{self, notification, report, say, Counts, Text};
 use crate::settle::Surroundings;
 use crate::socket::{is_full, Received};
@@ -93,6 +94,9 @@ impl Host {
         }
         if self.other_traffic != Traffic::default() {
             say(format_args!("other links: {}", self.other_traffic));
+        }
+        if output::lost() > 0 {
+            say(format_args!("lines not printed {}", output::lost()));
         }
         self.counts.say(self.engine.waiting());
     }

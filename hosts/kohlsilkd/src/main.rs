@@ -5,6 +5,7 @@ mod host;
 mod links;
 mod netlink;
 mod network;
+mod output;
 mod print;
 mod settle;
 mod socket;
@@ -40,19 +41,21 @@ fn main() -> ExitCode {
             return ExitCode::from(2);
         }
     };
-    match serve(&arguments) {
+    let served = serve(&arguments);
+    if let Err(error) = &served {
+        report(format_args!("{error}"));
+    }
+    output::end();
+    match served {
         Ok(true) => ExitCode::SUCCESS,
-        Ok(false) => ExitCode::FAILURE,
-        Err(error) => {
-            report(format_args!("{error}"));
-            ExitCode::FAILURE
-        }
+        _ => ExitCode::FAILURE,
     }
 }
 
 /// Serves until the end, and says whether all that the command line asks for was accepted.
 fn serve(arguments: &Arguments) -> io::Result<bool> {
     let signals = Signals::open()?;
+    output::begin()?;
     let mut netlink = Netlink::open()?;
     // Tried before any link is there: without the port nothing can be served.
     Socket::bound(GROUP.port(), arguments.ttl)?;

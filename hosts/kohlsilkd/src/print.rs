@@ -1,16 +1,16 @@
 //! What the program prints.
+use crate::output::{report_line, say_line};
 use kohlsilk::{Answer, Message, Record};
 use std::fmt;
-use std::io::Write;
 
-/// A line to standard output. That nobody reads it any more is no reason to stop serving.
+/// A line to standard output.
 pub fn say(line: fmt::Arguments) {
-    let _ = writeln!(std::io::stdout(), "{line}");
+    say_line(format!("{line}\n"));
 }
 
 /// A line to standard error.
 pub fn report(line: fmt::Arguments) {
-    let _ = writeln!(std::io::stderr(), "kohlsilkd: {line}");
+    report_line(format!("kohlsilkd: {line}\n"));
 }
 
 /// Bytes of the network or of the command line as text, with control characters written out, so that they cannot act on a terminal.

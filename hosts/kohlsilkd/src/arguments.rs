@@ -14,8 +14,10 @@ kohlsilkd: announces services to the network by SSDP, answers searches for them,
   --seed N                         the seed of the delays, instead of a random one
   --ttl N                          how many networks a datagram to the group may cross (4)
   --log-records                    print each record that is sent: source, destination, port, and the message in hexadecimal
+  --version                        print the version
+  -h, --help                       print this
 
-At the end each name is withdrawn, and the counts of the reply ledger are printed.
+At the end each name is withdrawn, and the counts of each link and of the reply ledger are printed.
 Status: 0, or 1 where the system failed or a service or search of the command line was refused, or 2 for a wrong command line.";
 
 #[derive(Debug, PartialEq, Eq)]
@@ -44,14 +46,18 @@ impl Arguments {
         let mut read = Arguments { ttl: 4, ..Arguments::default() };
         while let Some(word) = words.next() {
             let option = word.to_string_lossy().into_owned();
-            let mut next = || words.next().map(OsString::into_vec).ok_or(format!("{option} wants more words"));
+            let mut next = |wanted| value(&option, wanted, words.next());
             match option.as_str() {
-                "--advertise" => read.advertisements.push(Advertisement { name: next()?, service_type: next()?, location: next()? }),
-                "--subscribe" => read.subscriptions.push(next()?),
-                "--interface" => read.interfaces.push(String::from_utf8_lossy(&next()?).into_owned()),
-                "--seconds" => read.seconds = Some(number(&option, &next()?)?),
-                "--seed" => read.seed = Some(number(&option, &next()?)?),
-                "--ttl" => read.ttl = number(&option, &next()?)?,
+                "--advertise" => read.advertisements.push(Advertisement {
+                    name: next("NAME")?,
+                    service_type: next("TYPE")?,
+                    location: next("LOCATION")?,
+                }),
+                "--subscribe" => read.subscriptions.push(next("TYPE")?),
+                "--interface" => read.interfaces.push(String::from_utf8_lossy(&next("NAME")?).into_owned()),
+                "--seconds" => read.seconds = Some(number(&option, &next("N")?)?),
+                "--seed" => read.seed = Some(number(&option, &next("N")?)?),
+                "--ttl" => read.ttl = number(&option, &next("N")?)?,
                 "--log-records" => read.log_records = true,
                 _ => return Err(format!("{option} is no option")),
             }
@@ -60,6 +66,17 @@ impl Arguments {
             return Err("nothing to advertise and nothing to subscribe to".into());
         }
         Ok(read)
+    }
+}
+
+/// The word behind an option. One that is an option itself shows that a word was left out.
+fn value(option: &str, wanted: &str, word: Option<OsString>) -> Result<Vec<u8>, String> {
+    match word.map(OsString::into_vec) {
+        None => Err(format!("{option} wants {wanted}, and there is no further word")),
+        Some(word) if word.starts_with(b"--") => {
+            Err(format!("{option} wants {wanted}, and {} is an option", String::from_utf8_lossy(&word)))
+        }
+        Some(word) => Ok(word),
     }
 }
 
@@ -89,7 +106,8 @@ mod tests {
 
     #[test]
     fn wrong_words() {
-        assert_eq!(read("--advertise u t").unwrap_err(), "--advertise wants more words");
+        assert_eq!(read("--advertise u t").unwrap_err(), "--advertise wants LOCATION, and there is no further word");
+        assert_eq!(read("--subscribe --seconds 1").unwrap_err(), "--subscribe wants TYPE, and --seconds is an option");
         assert_eq!(read("--subscribe a --ttl 256").unwrap_err(), "--ttl: 256 is no number that fits");
         assert_eq!(read("--subscribe a -v").unwrap_err(), "-v is no option");
         assert_eq!(read("--log-records").unwrap_err(), "nothing to advertise and nothing to subscribe to");

@@ -30,8 +30,12 @@ const AT_A_TIME: usize = 64;
 
 fn main() -> ExitCode {
     let words: Vec<_> = std::env::args_os().skip(1).collect();
-    if words.iter().any(|word| word == "--help") {
+    if words.iter().any(|word| word == "--help" || word == "-h") {
         say(format_args!("{USAGE}"));
+        return ExitCode::SUCCESS;
+    }
+    if words.iter().any(|word| word == "--version") {
+        say(format_args!("kohlsilkd {}", env!("CARGO_PKG_VERSION")));
         return ExitCode::SUCCESS;
     }
     let arguments = match Arguments::read(words) {
@@ -58,7 +62,7 @@ fn serve(arguments: &Arguments) -> io::Result<bool> {
     output::begin()?;
     let mut netlink = Netlink::open()?;
     // Tried before any link is there: without the port nothing can be served.
-    Socket::bound(GROUP.port(), arguments.ttl)?;
+    Socket::bound(GROUP.port(), arguments.ttl).map_err(|error| io::Error::other(format!("UDP port {}: {error}", GROUP.port())))?;
     let seed = arguments.seed.map_or_else(random_seed, Ok)?;
     let mut host = Host::new(seed, arguments).map_err(io::Error::other)?;
     let accepted = host.begin(arguments);

@@ -1,6 +1,7 @@
 //! The command line.
 use std::ffi::OsString;
 use std::os::unix::ffi::OsStringExt;
+use std::path::{Path, PathBuf};
 
 pub const USAGE: &str = "\
 kohlsilkd: announces services to the network by SSDP, answers searches for them, and tells what others announce
@@ -10,6 +11,9 @@ kohlsilkd: announces services to the network by SSDP, answers searches for them,
   --subscribe TYPE                 search for a type and print what is found; ssdp:all finds everything (up to 4 times)
   --interface NAME                 serve on this link alone, as eth0 (or on each that is named so; 3 links are served at most). Otherwise on those
                                    that have an IPv4 address, ports of bridges and bonds apart: first those that are up
+  --config FILE                    read further settings, one a line: an option without its dashes and its words, as
+                                   'advertise NAME TYPE LOCATION'; a line that begins with # says nothing. SIGHUP reads it again: names are
+                                   added and withdrawn, and nothing else is disturbed
   --seconds N                      end after N seconds; otherwise on SIGINT or SIGTERM
   --seed N                         the seed of the delays, instead of a random one
   --ttl N                          how many networks a datagram to the group may cross (4)
@@ -17,10 +21,10 @@ kohlsilkd: announces services to the network by SSDP, answers searches for them,
   --version                        print the version
   -h, --help                       print this
 
-At the end each name is withdrawn, and the counts of each link and of the reply ledger are printed.
+At the end each name is withdrawn, and the counts of each link and of the reply ledger are printed; SIGUSR1 prints them meanwhile.
 Status: 0, or 1 where the system failed or a service or search of the command line was refused, or 2 for a wrong command line.";
 
-#[derive(Debug, PartialEq, Eq)]
+#[derive(Clone, Debug, PartialEq, Eq)]
 pub struct Advertisement {
     pub name: Vec<u8>,
     pub service_type: Vec<u8>,
@@ -37,35 +41,60 @@ pub struct Arguments {
     pub seed: Option<u32>,
     pub ttl: u8,
     pub log_records: bool,
+    /// A file with further settings.
+    pub config: Option<PathBuf>,
 }
 
 impl Arguments {
-    /// Reads the words behind the program's name; an error says which word is wrong.
+    /// Reads the words behind the program's name, and the file that they name; an error says which word is wrong.
     pub fn read(words: impl IntoIterator<Item = OsString>) -> Result<Arguments, String> {
-        let mut words = words.into_iter();
         let mut read = Arguments { ttl: 4, ..Arguments::default() };
-        while let Some(word) = words.next() {
-            let option = word.to_string_lossy().into_owned();
-            let mut next = |wanted| value(&option, wanted, words.next());
-            match option.as_str() {
-                "--advertise" => read.advertisements.push(Advertisement {
-                    name: next("NAME")?,
-                    service_type: next("TYPE")?,
-                    location: next("LOCATION")?,
-                }),
-                "--subscribe" => read.subscriptions.push(next("TYPE")?),
-                "--interface" => read.interfaces.push(String::from_utf8_lossy(&next("NAME")?).into_owned()),
-                "--seconds" => read.seconds = Some(number(&option, &next("N")?)?),
-                "--seed" => read.seed = Some(number(&option, &next("N")?)?),
-                "--ttl" => read.ttl = number(&option, &next("N")?)?,
-                "--log-records" => read.log_records = true,
-                _ => return Err(format!("{option} is no option")),
-            }
+        read.take(words.into_iter())?;
+        if let Some(path) = read.config.clone() {
+            read.take_file(&path)?;
         }
         if read.advertisements.is_empty() && read.subscriptions.is_empty() {
             return Err("nothing to advertise and nothing to subscribe to".into());
         }
         Ok(read)
+    }
+
+    fn take(&mut self, mut words: impl Iterator<Item = OsString>) -> Result<(), String> {
+        while let Some(word) = words.next() {
+            let option = word.to_string_lossy().into_owned();
+            let mut next = |wanted| value(&option, wanted, words.next());
+            match option.as_str() {
+                "--advertise" => {
+                    let service = Advertisement { name: next("NAME")?, service_type: next("TYPE")?, location: next("LOCATION")? };
+                    self.advertisements.push(service);
+                }
+                "--subscribe" => self.subscriptions.push(next("TYPE")?),
+                "--interface" => self.interfaces.push(String::from_utf8_lossy(&next("NAME")?).into_owned()),
+                "--config" => self.config = Some(OsString::from_vec(next("FILE")?).into()),
+                "--seconds" => self.seconds = Some(number(&option, &next("N")?)?),
+                "--seed" => self.seed = Some(number(&option, &next("N")?)?),
+                "--ttl" => self.ttl = number(&option, &next("N")?)?,
+                "--log-records" => self.log_records = true,
+                _ => return Err(format!("{option} is no option")),
+            }
+        }
+        Ok(())
+    }
+
+    /// One setting a line: an option without its dashes, and its words, between white space. A line that begins with # says nothing.
+    fn take_file(&mut self, path: &Path) -> Result<(), String> {
+        let text = std::fs::read(path).map_err(|error| format!("{}: {error}", path.display()))?;
+        for (number, line) in text.split(|byte| *byte == b'\n').enumerate() {
+            let mut words = line.split(u8::is_ascii_whitespace).filter(|word| !word.is_empty());
+            let Some(first) = words.next().filter(|word| !word.starts_with(b"#")) else { continue };
+            let wrong = |why| format!("{}, line {}: {why}", path.display(), number + 1);
+            if first == b"config" {
+                return Err(wrong("config is for the command line".into()));
+            }
+            let words = std::iter::once([b"--", first].concat()).chain(words.map(<[u8]>::to_vec));
+            self.take(words.map(OsString::from_vec)).map_err(wrong)?;
+        }
+        Ok(())
     }
 }
 
@@ -111,5 +140,30 @@ mod tests {
         assert_eq!(read("--subscribe a --ttl 256").unwrap_err(), "--ttl: 256 is no number that fits");
         assert_eq!(read("--subscribe a -v").unwrap_err(), "-v is no option");
         assert_eq!(read("--log-records").unwrap_err(), "nothing to advertise and nothing to subscribe to");
+    }
+
+    /// A file of this test's own.
+    fn config(text: &str) -> PathBuf {
+        let path = std::env::temp_dir().join(format!("kohlsilkd-{}-{}", std::process::id(), text.len()));
+        std::fs::write(&path, text).unwrap();
+        path
+    }
+
+    #[test]
+    fn a_file_has_the_same_words() {
+        let path = config("# a comment\n\n  advertise u t http://h/\nsubscribe a\n\tttl 2 \nlog-records\n");
+        let words = read(&format!("--config {}", path.display())).unwrap();
+        let same = read("--advertise u t http://h/ --subscribe a --ttl 2 --log-records").unwrap();
+        assert_eq!(words, Arguments { config: Some(path.clone()), ..same });
+        std::fs::remove_file(path).unwrap();
+    }
+
+    #[test]
+    fn wrong_lines() {
+        let path = config("subscribe a\nadvertise u t\n");
+        let wrong = read(&format!("--config {}", path.display())).unwrap_err();
+        assert_eq!(wrong, format!("{}, line 2: --advertise wants LOCATION, and there is no further word", path.display()));
+        std::fs::remove_file(&path).unwrap();
+        assert!(read(&format!("--config {}", path.display())).unwrap_err().contains("No such file"));
     }
 }

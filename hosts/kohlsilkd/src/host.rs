@@ -1,5 +1,5 @@
 //! The engine among its sockets: each call's records are sent, its counts added up, its refusal reported.
-use crate::arguments::Arguments;
+use crate::arguments::{Advertisement, Arguments};
 use crate::links::Links;
 use crate::output;
 use crate::print::{self, notification, report, say, Counts, Text};
@@ -28,6 +28,7 @@ pub struct Host {
     pub traffic: BTreeMap<u32, Traffic>,
     pub other_traffic: Traffic,
     subscriptions: Vec<Vec<u8>>,
+    advertisements: Vec<Advertisement>,
     start: Instant,
     log_records: bool,
 }
@@ -45,6 +46,7 @@ impl Host {
             traffic: BTreeMap::new(),
             other_traffic: Traffic::default(),
             subscriptions: vec![],
+            advertisements: vec![],
             start: Instant::now(),
             log_records: arguments.log_records,
         })
@@ -71,17 +73,40 @@ impl Host {
             }
         }
         for service in &arguments.advertisements {
-            let answer = self.engine.advertise(&service.name, &service.service_type, &service.location, &mut self.outbox);
-            accepted &= self.answered(answer, None, || format!("advertise {}", Text(&service.name))).is_some();
+            accepted &= self.advertise(service);
         }
         accepted
     }
 
+    /// Announces a service, and says whether it was accepted.
+    fn advertise(&mut self, service: &Advertisement) -> bool {
+        let answer = self.engine.advertise(&service.name, &service.service_type, &service.location, &mut self.outbox);
+        let accepted = self.answered(answer, None, || format!("advertise {}", Text(&service.name))).is_some();
+        if accepted {
+            self.advertisements.push(service.clone());
+        }
+        accepted
+    }
+
+    fn withdraw(&mut self, service: &Advertisement) {
+        let answer = self.engine.deadvertise(&service.name, &mut self.outbox);
+        self.answered(answer, None, || format!("deadvertise {}", Text(&service.name)));
+    }
+
+    /// Withdraws the services that are no longer wanted and announces those that are new. One that has changed is both.
+    pub fn change_names(&mut self, wanted: &[Advertisement]) {
+        let (kept, gone): (Vec<_>, Vec<_>) = self.advertisements.drain(..).partition(|service| wanted.contains(service));
+        self.advertisements = kept;
+        gone.iter().for_each(|service| self.withdraw(service));
+        let new: Vec<_> = wanted.iter().filter(|service| !self.advertisements.contains(service)).collect();
+        let accepted = new.iter().filter(|service| self.advertise(service)).count();
+        say(format_args!("configuration read again: {accepted} names added, {} withdrawn", gone.len()));
+    }
+
     /// Withdraws each name, and prints the counts.
-    pub fn end(&mut self, arguments: &Arguments) {
-        for service in &arguments.advertisements {
-            let answer = self.engine.deadvertise(&service.name, &mut self.outbox);
-            self.answered(answer, None, || format!("deadvertise {}", Text(&service.name)));
+    pub fn end(&mut self) {
+        for service in std::mem::take(&mut self.advertisements) {
+            self.withdraw(&service);
         }
         self.say_counts();
     }

@@ -19,6 +19,7 @@ use kohlsilk::GROUP;
 use netlink::Netlink;
 use print::{report, say};
 use socket::Socket;
+use std::ffi::OsString;
 use std::io;
 use std::io::ErrorKind::{Interrupted, WouldBlock};
 use std::os::fd::AsRawFd;
@@ -38,14 +39,14 @@ fn main() -> ExitCode {
         say(format_args!("kohlsilkd {}", env!("CARGO_PKG_VERSION")));
         return ExitCode::SUCCESS;
     }
-    let arguments = match Arguments::read(words) {
+    let arguments = match Arguments::read(words.clone()) {
         Ok(arguments) => arguments,
         Err(wrong) => {
             report(format_args!("{wrong}\n\n{USAGE}"));
             return ExitCode::from(2);
         }
     };
-    let served = serve(&arguments);
+    let served = serve(&arguments, &words);
     if let Err(error) = &served {
         report(format_args!("{error}"));
     }
@@ -56,8 +57,8 @@ fn main() -> ExitCode {
     }
 }
 
-/// Serves until the end, and says whether all that the command line asks for was accepted.
-fn serve(arguments: &Arguments) -> io::Result<bool> {
+/// Serves until the end, and says whether all that the command line (`words`) asks for was accepted.
+fn serve(arguments: &Arguments, words: &[OsString]) -> io::Result<bool> {
     let signals = Signals::open()?;
     output::begin()?;
     let mut netlink = Netlink::open()?;
@@ -69,20 +70,36 @@ fn serve(arguments: &Arguments) -> io::Result<bool> {
     survey(&mut host, &mut netlink)?;
     let mut buffer = vec![0; 1 << 16];
     let end = arguments.seconds.map_or(u64::MAX, |seconds| seconds.saturating_mul(1000));
-    while host.now() < end && turn(&mut host, &signals, &mut netlink, end, &mut buffer)? {}
-    host.end(arguments);
+    while host.now() < end {
+        match turn(&mut host, &signals, &mut netlink, end, &mut buffer)? {
+            None => {}
+            Some(libc::SIGHUP) => read_again(&mut host, words),
+            Some(libc::SIGUSR1) => host.say_counts(),
+            Some(_) => break,
+        }
+    }
+    host.end();
     Ok(accepted)
 }
 
-/// Waits for what comes next, and takes it in. Says whether the program goes on.
-fn turn(host: &mut Host, signals: &Signals, netlink: &mut Netlink, end: u64, buffer: &mut [u8]) -> io::Result<bool> {
+/// Reads the configuration again. Where it is wrong, all stays as it is.
+fn read_again(host: &mut Host, words: &[OsString]) {
+    match Arguments::read(words.iter().cloned()) {
+        Ok(arguments) if arguments.config.is_some() => host.change_names(&arguments.advertisements),
+        Ok(_) => report(format_args!("SIGHUP: there is no --config to read again")),
+        Err(wrong) => report(format_args!("SIGHUP: {wrong}; all stays as it is")),
+    }
+}
+
+/// Waits for what comes next, and takes it in: a signal is handed back.
+fn turn(host: &mut Host, signals: &Signals, netlink: &mut Netlink, end: u64, buffer: &mut [u8]) -> io::Result<Option<i32>> {
     let links: Vec<_> = host.sockets.values().cloned().collect();
     let sockets: Vec<&Socket> = links.iter().flat_map(|sockets| sockets.both()).collect();
     let mut descriptors = vec![signals.as_raw_fd(), netlink.as_raw_fd()];
     descriptors.extend(sockets.iter().map(|socket| socket.as_raw_fd()));
     let ready = wait(&descriptors, host.until_poll().min(end - host.now().min(end)))?;
     if ready[0] {
-        return Ok(false);
+        return Ok(signals.next());
     }
     if ready[1] {
         take_news(host, netlink)?;
@@ -91,7 +108,7 @@ fn turn(host: &mut Host, signals: &Signals, netlink: &mut Netlink, end: u64, buf
         take_datagrams(host, socket, buffer);
     }
     host.on_time();
-    Ok(true)
+    Ok(None)
 }
 
 fn survey(host: &mut Host, netlink: &mut Netlink) -> io::Result<()> {

@@ -1,7 +1,7 @@
-//! Waiting for descriptors, for an instant, and for the signals that end the program.
+//! Waiting for descriptors, for an instant, and for signals.
 use crate::socket::checked;
 use std::io;
-use std::mem::MaybeUninit;
+use std::mem::{size_of, MaybeUninit};
 use std::os::fd::{AsRawFd, FromRawFd, OwnedFd, RawFd};
 
 /// Waits until one of the descriptors can be read, at most so many milliseconds, and says which can.
@@ -15,8 +15,10 @@ pub fn wait(descriptors: &[RawFd], milliseconds: u64) -> io::Result<Vec<bool>> {
     }
 }
 
-/// A descriptor that can be read once SIGINT or SIGTERM has come. They no longer end the program by themselves.
+/// A descriptor that can be read once one of these signals has come. They no longer end the program by themselves.
 pub struct Signals(OwnedFd);
+
+const SIGNALS: [i32; 4] = [libc::SIGINT, libc::SIGTERM, libc::SIGHUP, libc::SIGUSR1];
 
 impl Signals {
     pub fn open() -> io::Result<Signals> {
@@ -24,13 +26,24 @@ impl Signals {
         // SAFETY: sigemptyset fills the set before the others read it.
         let fd = unsafe {
             libc::sigemptyset(set.as_mut_ptr());
-            libc::sigaddset(set.as_mut_ptr(), libc::SIGINT);
-            libc::sigaddset(set.as_mut_ptr(), libc::SIGTERM);
+            for signal in SIGNALS {
+                libc::sigaddset(set.as_mut_ptr(), signal);
+            }
             checked(libc::sigprocmask(libc::SIG_BLOCK, set.as_ptr(), std::ptr::null_mut()))?;
-            checked(libc::signalfd(-1, set.as_ptr(), libc::SFD_CLOEXEC))?
+            checked(libc::signalfd(-1, set.as_ptr(), libc::SFD_CLOEXEC | libc::SFD_NONBLOCK))?
         };
         // SAFETY: `fd` was opened just now and nobody else has it.
         Ok(Signals(unsafe { OwnedFd::from_raw_fd(fd) }))
+    }
+
+    /// The next signal that has come, if any.
+    pub fn next(&self) -> Option<i32> {
+        let mut info = MaybeUninit::<libc::signalfd_siginfo>::zeroed();
+        // SAFETY: `info` is writable for its size.
+        let len = unsafe { libc::read(self.as_raw_fd(), info.as_mut_ptr().cast(), size_of::<libc::signalfd_siginfo>()) };
+        // SAFETY: a signalfd_siginfo is numbers, for which zeros are values.
+        let info = unsafe { info.assume_init() };
+        (len > 0).then_some(info.ssi_signo as i32)
     }
 }
 

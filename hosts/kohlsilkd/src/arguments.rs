@@ -17,6 +17,7 @@ kohlsilkd: announces services to the network by SSDP, answers searches for them,
   --seconds N                      end after N seconds; otherwise on SIGINT or SIGTERM
   --seed N                         the seed of the delays, instead of a random one
   --ttl N                          how many networks a datagram to the group may cross (4)
+  --answer-anyone                  answer searchers on networks behind a router too, not only those on a network of the link by which the search came
   --log-records                    print each record that is sent: source, destination, port, and the message in hexadecimal
   --version                        print the version
   -h, --help                       print this
@@ -41,6 +42,8 @@ pub struct Arguments {
     pub seed: Option<u32>,
     pub ttl: u8,
     pub log_records: bool,
+    /// Searchers off the link are answered too.
+    pub answer_anyone: bool,
     /// A file with further settings.
     pub config: Option<PathBuf>,
 }
@@ -75,6 +78,7 @@ impl Arguments {
                 "--seed" => self.seed = Some(number(&option, &next("N")?)?),
                 "--ttl" => self.ttl = number(&option, &next("N")?)?,
                 "--log-records" => self.log_records = true,
+                "--answer-anyone" => self.answer_anyone = true,
                 _ => return Err(format!("{option} is no option")),
             }
         }

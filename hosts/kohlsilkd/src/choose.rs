@@ -70,6 +70,7 @@ fn hindrance(link: &Link, names: &[String]) -> Option<LeftOut> {
 #[cfg(test)]
 mod tests {
     use super::*;
+    use crate::network::Subnet;
     use kohlsilk::flags::{MULTICAST, RUNNING, UP};
     use std::net::Ipv4Addr;
 
@@ -80,7 +81,8 @@ mod tests {
         for (index, flags, is_port, has_address) in links {
             network.link(*index, &format!("eth{index}"), *flags, *is_port);
             if *has_address {
-                network.address(*index, Ipv4Addr::from(*index));
+                let address = Ipv4Addr::from(*index);
+                network.address(*index, address, Subnet { base: address, prefix: 24 });
             }
         }
         network

@@ -7,7 +7,7 @@ use crate::settle::Surroundings;
 use crate::socket::{is_full, Received};
 use crate::sockets::Sockets;
 use crate::traffic::Traffic;
-use kohlsilk::{Answer, Engine, Record, Refusal, GROUP, OUTBOX_SIZE};
+use kohlsilk::{Answer, Engine, Message, Record, Refusal, GROUP, OUTBOX_SIZE};
 use std::collections::BTreeMap;
 use std::fmt::Display;
 use std::io;
@@ -31,6 +31,7 @@ pub struct Host {
     advertisements: Vec<Advertisement>,
     start: Instant,
     log_records: bool,
+    answer_anyone: bool,
 }
 
 impl Host {
@@ -49,6 +50,7 @@ impl Host {
             advertisements: vec![],
             start: Instant::now(),
             log_records: arguments.log_records,
+            answer_anyone: arguments.answer_anyone,
         })
     }
 
@@ -138,6 +140,10 @@ impl Host {
     pub fn on_datagram(&mut self, received: &Received, datagram: &[u8]) {
         let Received { sender, receiver, link, .. } = *received;
         self.traffic_of(link).heard += 1;
+        if !self.may_answer(received) && matches!(kohlsilk::parse(datagram), Ok(Message::Search { .. })) {
+            self.traffic_of(link).off_link += 1;
+            return;
+        }
         let answer = self.engine.on_data(self.now(), sender, receiver, datagram);
         let Some(answer) = self.answered(answer, None, || format!("datagram from {sender}")) else { return };
         if let (1.., Ok(message)) = (answer.told, kohlsilk::parse(datagram)) {
@@ -171,6 +177,12 @@ impl Host {
         }
         self.outbox = outbox;
         Some(answer)
+    }
+
+    /// Whether a search from this sender is for the engine. Others could have replies sent to strangers, by a forged address.
+    fn may_answer(&self, received: &Received) -> bool {
+        let is_served = self.sockets.contains_key(&received.link);
+        self.answer_anyone || self.around.may_answer(*received.sender.ip(), received.link, is_served)
     }
 
     fn traffic_of(&mut self, link: u32) -> &mut Traffic {

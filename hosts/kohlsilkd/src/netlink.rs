@@ -1,4 +1,5 @@
 //! News of links and addresses from the kernel (rtnetlink): those that are there, then each change.
+use crate::network::Subnet;
 use crate::socket::checked;
 use std::collections::VecDeque;
 use std::io;
@@ -21,6 +22,7 @@ pub enum News {
     Address {
         index: u32,
         address: Ipv4Addr,
+        subnet: Subnet,
     },
     AddressGone {
         index: u32,
@@ -177,7 +179,10 @@ fn read(message: &Message) -> Option<News> {
             Some(News::Link { index, name: name(attributes), flags: number32(body, 8)?, is_port: is_port(attributes) })
         }
         libc::RTM_DELLINK if family == libc::AF_UNSPEC => Some(News::LinkGone { index }),
-        libc::RTM_NEWADDR => Some(News::Address { index, address: address(body.get(8..)?)? }),
+        libc::RTM_NEWADDR => {
+            let subnet = Subnet { base: far_address(body.get(8..)?)?, prefix: *body.get(1)? };
+            Some(News::Address { index, address: address(body.get(8..)?)?, subnet })
+        }
         libc::RTM_DELADDR => Some(News::AddressGone { index, address: address(body.get(8..)?)? }),
         _ => None,
     }
@@ -197,8 +202,16 @@ fn is_port(attributes: &[u8]) -> bool {
 
 /// The host's own address among the attributes: on a link between two points the other kind is the far end's.
 fn address(attributes: &[u8]) -> Option<Ipv4Addr> {
-    let octets = attribute(attributes, libc::IFA_LOCAL).or_else(|| attribute(attributes, libc::IFA_ADDRESS))?;
-    Some(<[u8; 4]>::try_from(octets).ok()?.into())
+    ipv4(attributes, libc::IFA_LOCAL).or_else(|| ipv4(attributes, libc::IFA_ADDRESS))
+}
+
+/// The address whose prefix is the network's: the far end's, or the host's own.
+fn far_address(attributes: &[u8]) -> Option<Ipv4Addr> {
+    ipv4(attributes, libc::IFA_ADDRESS).or_else(|| ipv4(attributes, libc::IFA_LOCAL))
+}
+
+fn ipv4(attributes: &[u8], kind: u16) -> Option<Ipv4Addr> {
+    Some(<[u8; 4]>::try_from(attribute(attributes, kind)?).ok()?.into())
 }
 
 fn attribute(mut rest: &[u8], kind: u16) -> Option<&[u8]> {
@@ -261,7 +274,8 @@ mod tests {
         let body = [&[2, 24, 0, 0][..], &7u32.to_ne_bytes(), &peer, &own].concat();
         let bytes = [named_link("eth0", b""), message(libc::RTM_NEWADDR, &body)].concat();
         let link = News::Link { index: 7, name: "eth0".into(), flags: 0x1043, is_port: false };
-        assert_eq!(read_all(&bytes), [link, News::Address { index: 7, address: [10, 0, 0, 1].into() }]);
+        let subnet = Subnet { base: [10, 0, 0, 2].into(), prefix: 24 };
+        assert_eq!(read_all(&bytes), [link, News::Address { index: 7, address: [10, 0, 0, 1].into(), subnet }]);
     }
 
     #[test]

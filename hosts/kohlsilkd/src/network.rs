@@ -24,6 +24,8 @@ pub struct Link {
 }
 
 pub struct Address {
+    /// Who can be reached from it without a router.
+    subnet: Subnet,
     /// Its number among all that were told of: the kernel tells a link's primary address first.
     pub told: u64,
     /// The survey in which it was seen last.
@@ -37,6 +39,19 @@ impl Link {
 
     pub fn has_multicast(&self) -> bool {
         self.flags & flags::MULTICAST != 0
+    }
+}
+
+#[derive(Clone, Copy, Debug, PartialEq, Eq)]
+pub struct Subnet {
+    pub base: Ipv4Addr,
+    pub prefix: u8,
+}
+
+impl Subnet {
+    fn contains(&self, address: Ipv4Addr) -> bool {
+        let mask = u32::MAX.checked_shl(32 - u32::from(self.prefix.min(32))).unwrap_or(0);
+        (u32::from(self.base) ^ u32::from(address)) & mask == 0
     }
 }
 
@@ -62,17 +77,24 @@ impl Network {
     }
 
     /// An address may be told of before its link is: then the link is there without flags, which nothing is sent on.
-    pub fn address(&mut self, index: u32, address: Ipv4Addr) {
+    pub fn address(&mut self, index: u32, address: Ipv4Addr, subnet: Subnet) {
         let seen = self.survey;
         self.told += 1;
         let link = self.links.entry(index).or_insert_with(|| Link { seen, ..Link::default() });
-        link.addresses.entry(address).or_insert(Address { told: self.told, seen }).seen = seen;
+        let held = link.addresses.entry(address).or_insert(Address { subnet, told: self.told, seen });
+        (held.subnet, held.seen) = (subnet, seen);
     }
 
     pub fn address_gone(&mut self, index: u32, address: Ipv4Addr) {
         if let Some(link) = self.links.get_mut(&index) {
             link.addresses.remove(&address);
         }
+    }
+
+    /// Whether an address is on a network of a link, or is this machine's own.
+    pub fn is_near(&self, index: u32, address: Ipv4Addr) -> bool {
+        let on_link = |link: &Link| link.addresses.values().any(|held| held.subnet.contains(address));
+        self.links.get(&index).is_some_and(on_link) || self.links.values().any(|link| link.addresses.contains_key(&address))
     }
 
     pub fn begin_survey(&mut self) {
@@ -93,18 +115,35 @@ impl Network {
 mod tests {
     use super::*;
 
+    fn subnet(base: [u8; 4], prefix: u8) -> Subnet {
+        Subnet { base: base.into(), prefix }
+    }
+
+    #[test]
+    fn who_is_near() {
+        let mut network = Network::default();
+        network.address(2, [10, 0, 1, 1].into(), subnet([10, 0, 1, 1], 24));
+        network.address(2, [10, 9, 0, 1].into(), subnet([10, 9, 0, 2], 32));
+        network.address(3, [10, 0, 2, 1].into(), subnet([10, 0, 2, 1], 24));
+        let near = |index, address: [u8; 4]| network.is_near(index, address.into());
+        assert!(near(2, [10, 0, 1, 255]) && near(2, [10, 9, 0, 2]) && near(3, [10, 0, 2, 9]));
+        assert!(!near(3, [10, 0, 1, 255]) && !near(2, [10, 9, 0, 3]) && !near(4, [10, 0, 1, 9]));
+        assert!(near(1, [10, 0, 2, 1]), "this machine's own");
+        assert!(subnet([0, 0, 0, 0], 0).contains([1, 2, 3, 4].into()));
+    }
+
     #[test]
     fn what_a_survey_does_not_find_has_gone() {
         let [one, two] = [1, 2].map(|k| Ipv4Addr::new(10, 0, 0, k));
         let mut network = Network::default();
         for index in [2, 3] {
             network.link(index, "eth", flags::UP, false);
-            network.address(index, one);
-            network.address(index, two);
+            network.address(index, one, subnet([10, 0, 0, 1], 24));
+            network.address(index, two, subnet([10, 0, 0, 1], 24));
         }
         network.begin_survey();
         network.link(2, "eth", flags::UP, false);
-        network.address(2, two);
+        network.address(2, two, subnet([10, 0, 0, 1], 24));
         network.forget_unseen();
         assert_eq!(network.links.keys().collect::<Vec<_>>(), [&2]);
         assert_eq!(network.links[&2].addresses.keys().collect::<Vec<_>>(), [&two]);
@@ -114,7 +153,7 @@ mod tests {
     fn nothing_is_kept_of_what_has_gone() {
         let mut network = Network::default();
         for k in 0..1000 {
-            network.address(2, Ipv4Addr::from(k));
+            network.address(2, Ipv4Addr::from(k), subnet([10, 0, 0, 1], 24));
             network.address_gone(2, Ipv4Addr::from(k));
         }
         assert!(network.links[&2].addresses.is_empty());

@@ -45,6 +45,12 @@ impl Surroundings {
         false
     }
 
+    /// Whether a searcher may be answered: it is on a network of the link by which its search came, which is served, or on this machine.
+    pub fn may_answer(&self, searcher: Ipv4Addr, link: u32, is_served: bool) -> bool {
+        let is_loopback = self.network.links.get(&link).is_some_and(|link| link.flags & libc::IFF_LOOPBACK as u32 != 0);
+        (is_served || is_loopback) && self.network.is_near(link, searcher)
+    }
+
     /// Says of each link that has no place why, once. The loopback link, and what the user has not chosen, go without saying.
     fn say_left_out(&mut self, left_out: BTreeMap<u32, LeftOut>) {
         for (index, why) in &left_out {
@@ -79,7 +85,7 @@ impl Host {
                 self.leave_link(index);
                 self.around.network.link_gone(index);
             }
-            News::Address { index, address } => around.network.address(index, address),
+            News::Address { index, address, subnet } => around.network.address(index, address, subnet),
             News::AddressGone { index, address } => {
                 around.network.address_gone(index, address);
                 self.take_out_address(index, address);

@@ -1,4 +1,5 @@
 //! The command line.
+use crate::print::Level;
 use std::ffi::OsString;
 use std::os::unix::ffi::OsStringExt;
 use std::path::{Path, PathBuf};
@@ -18,6 +19,8 @@ kohlsilkd: announces services to the network by SSDP, answers searches for them,
   --seed N                         the seed of the delays, instead of a random one
   --ttl N                          how many networks a datagram to the group may cross (4)
   --answer-anyone                  answer searchers on networks behind a router too, not only those on a network of the link by which the search came
+  --quiet                          print what is found, what fails, and the counts alone
+  --verbose                        print each refused datagram; otherwise five a minute for each reason, and how many more there were
   --log-records                    print each record that is sent: source, destination, port, and the message in hexadecimal
   --version                        print the version
   -h, --help                       print this
@@ -42,6 +45,7 @@ pub struct Arguments {
     pub seed: Option<u32>,
     pub ttl: u8,
     pub log_records: bool,
+    pub level: Level,
     /// Searchers off the link are answered too.
     pub answer_anyone: bool,
     /// A file with further settings.
@@ -78,6 +82,8 @@ impl Arguments {
                 "--seed" => self.seed = Some(number(&option, &next("N")?)?),
                 "--ttl" => self.ttl = number(&option, &next("N")?)?,
                 "--log-records" => self.log_records = true,
+                "--quiet" => self.level = Level::Quiet,
+                "--verbose" => self.level = Level::Verbose,
                 "--answer-anyone" => self.answer_anyone = true,
                 _ => return Err(format!("{option} is no option")),
             }
@@ -134,6 +140,7 @@ mod tests {
         assert_eq!(read.advertisements, [Advertisement { name: u, service_type: t, location: l }]);
         assert_eq!(read.subscriptions, [b"a", b"b"]);
         assert_eq!(read.interfaces, ["e0"]);
+        assert_eq!(read.level, Level::Normal);
         assert_eq!((read.seed, read.ttl, read.seconds, read.log_records), (Some(7), 2, Some(9), true));
     }
 

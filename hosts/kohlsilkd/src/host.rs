@@ -1,15 +1,16 @@
 //! The engine among its sockets: each call's records are sent, its counts added up, its refusal reported.
 use crate::arguments::{Advertisement, Arguments};
+use crate::limit::{Kind, Limits};
 use crate::links::Links;
 use crate::output;
-use crate::print::{self, notification, report, say, Counts, Text};
+use crate::print::{self, level, notification, remark, report, say, Counts, Level, Text};
 use crate::settle::Surroundings;
 use crate::socket::{is_full, Received};
 use crate::sockets::Sockets;
 use crate::traffic::Traffic;
 use kohlsilk::{Answer, Engine, Message, Record, Refusal, GROUP, OUTBOX_SIZE};
 use std::collections::BTreeMap;
-use std::fmt::Display;
+use std::fmt::{self, Display};
 use std::io;
 use std::net::Ipv4Addr;
 use std::rc::Rc;
@@ -32,6 +33,7 @@ pub struct Host {
     start: Instant,
     log_records: bool,
     answer_anyone: bool,
+    limits: Limits,
 }
 
 impl Host {
@@ -51,6 +53,7 @@ impl Host {
             start: Instant::now(),
             log_records: arguments.log_records,
             answer_anyone: arguments.answer_anyone,
+            limits: Limits::default(),
         })
     }
 
@@ -110,6 +113,7 @@ impl Host {
         for service in std::mem::take(&mut self.advertisements) {
             self.withdraw(&service);
         }
+        self.say_more(u64::MAX);
         self.say_counts();
     }
 
@@ -135,6 +139,22 @@ impl Host {
             let answer = self.engine.handle_timeout(now, &mut self.outbox);
             self.answered(answer, None, || "timeout");
         }
+        self.say_more(now);
+    }
+
+    /// A line that others can cause: it is printed up to a limit, or always by --verbose and never by --quiet.
+    pub fn report_limited(&mut self, kind: Kind, line: fmt::Arguments) {
+        let now = self.now();
+        if level() == Level::Verbose || self.limits.admits(kind, now) {
+            remark(line);
+        }
+    }
+
+    /// Says how many lines were not printed in the windows that have ended.
+    fn say_more(&mut self, now: u64) {
+        for (kind, more) in self.limits.ended(now) {
+            remark(format_args!("{more} more like this: {kind}"));
+        }
     }
 
     pub fn on_datagram(&mut self, received: &Received, datagram: &[u8]) {
@@ -145,6 +165,10 @@ impl Host {
             return;
         }
         let answer = self.engine.on_data(self.now(), sender, receiver, datagram);
+        let answer = match answer {
+            Err(refusal) => return self.report_limited(Kind::Refused(refusal.number()), format_args!("datagram from {sender}: {refusal}")),
+            answer => answer,
+        };
         let Some(answer) = self.answered(answer, None, || format!("datagram from {sender}")) else { return };
         if let (1.., Ok(message)) = (answer.told, kohlsilk::parse(datagram)) {
             let told: Vec<String> = answer
@@ -215,7 +239,8 @@ impl Host {
             Err(error) => {
                 traffic.not_sent += 1;
                 if !is_full(&error) {
-                    report(format_args!("{}: from {} to {}: {error}", what(), record.source, record.destination));
+                    let line = format!("{}: from {} to {}: {error}", what(), record.source, record.destination);
+                    self.report_limited(Kind::NotSent, format_args!("{line}"));
                 }
             }
         }

@@ -22,6 +22,10 @@ impl Links {
         self.held.keys().copied().collect()
     }
 
+    pub fn is_up(&self, index: u32) -> bool {
+        self.held.get(&index).is_some_and(|link| link.up)
+    }
+
     pub fn note_link(&mut self, index: u32, up: bool) {
         self.held.entry(index).or_default().up = up;
     }

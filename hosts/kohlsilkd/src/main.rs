@@ -2,6 +2,7 @@
 mod arguments;
 mod choose;
 mod host;
+mod limit;
 mod links;
 mod netlink;
 mod network;
@@ -16,8 +17,9 @@ mod wait;
 use arguments::{Arguments, USAGE};
 use host::Host;
 use kohlsilk::GROUP;
+use limit::Kind;
 use netlink::Netlink;
-use print::{report, say};
+use print::{report, say, set_level};
 use socket::Socket;
 use std::ffi::OsString;
 use std::io;
@@ -46,6 +48,7 @@ fn main() -> ExitCode {
             return ExitCode::from(2);
         }
     };
+    set_level(arguments.level);
     let served = serve(&arguments, &words);
     if let Err(error) = &served {
         report(format_args!("{error}"));
@@ -141,7 +144,7 @@ fn take_datagrams(host: &mut Host, socket: &Socket, buffer: &mut [u8]) {
             Ok(received) => host.on_datagram(&received, &buffer[..received.len]),
             Err(error) if matches!(error.kind(), WouldBlock | Interrupted) => return,
             Err(error) => {
-                report(format_args!("receiving: {error}"));
+                host.report_limited(Kind::NotReceived, format_args!("receiving: {error}"));
                 return;
             }
         }

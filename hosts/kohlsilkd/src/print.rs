@@ -2,10 +2,48 @@
 use crate::output::{report_line, say_line};
 use kohlsilk::{Answer, Message, Record};
 use std::fmt;
+use std::sync::OnceLock;
 
 /// A line to standard output.
 pub fn say(line: fmt::Arguments) {
     say_line(format!("{line}\n"));
+}
+
+/// How much is printed.
+#[derive(Clone, Copy, Debug, Default, PartialEq, Eq, PartialOrd, Ord)]
+pub enum Level {
+    /// What the command line asks for, what fails, and the counts.
+    Quiet,
+    /// What links and addresses do as well, and refused datagrams up to a limit.
+    #[default]
+    Normal,
+    /// Every refused datagram.
+    Verbose,
+}
+
+static LEVEL: OnceLock<Level> = OnceLock::new();
+
+/// Sets how much is printed, once.
+pub fn set_level(level: Level) {
+    let _ = LEVEL.set(level);
+}
+
+pub fn level() -> Level {
+    LEVEL.get().copied().unwrap_or_default()
+}
+
+/// A line to standard output about links and addresses.
+pub fn note(line: fmt::Arguments) {
+    if level() > Level::Quiet {
+        say(line);
+    }
+}
+
+/// A line to standard error about what is not as it could be, and is no failure.
+pub fn remark(line: fmt::Arguments) {
+    if level() > Level::Quiet {
+        report(line);
+    }
 }
 
 /// A line to standard error.

@@ -4,7 +4,7 @@ use crate::choose::{choose, LeftOut};
 use crate::host::{error_number, Host};
 use crate::netlink::News;
 use crate::network::{Named, Network};
-use crate::print::{report, say};
+use crate::print::{note, remark, report};
 use crate::sockets::Sockets;
 use crate::traffic::Traffic;
 use kohlsilk::ADDRESSES;
@@ -57,14 +57,14 @@ impl Surroundings {
             let link = &self.network.links[index];
             let plain = *why == LeftOut::NotNamed || link.flags & libc::IFF_LOOPBACK as u32 != 0 || link.name.is_empty();
             if !plain && self.said_left_out.get(index) != Some(why) {
-                report(format_args!("link {} left out: {why}", Named(&link.name, *index)));
+                remark(format_args!("link {} left out: {why}", Named(&link.name, *index)));
             }
         }
         self.said_left_out = left_out;
         let is_here = |name: &String| self.network.links.values().any(|link| link.name == *name);
         let absent: BTreeSet<String> = self.names.iter().filter(|name| !is_here(name)).cloned().collect();
         for name in absent.difference(&self.said_absent) {
-            report(format_args!("--interface {name}: no link has this name; it is served once one has"));
+            remark(format_args!("--interface {name}: no link has this name; it is served once one has"));
         }
         self.said_absent = absent;
     }
@@ -132,9 +132,13 @@ impl Host {
     /// A link that is held may have turned up or down.
     fn on_flags(&mut self, index: u32, flags: u32) {
         if self.links.holds(index) {
+            let (name, up) = (self.around.name(index), self.around.network.links[&index].is_up());
             let answer = self.engine.new_link(index, flags, 0, &mut self.outbox);
-            self.links.note_link(index, self.around.network.links[&index].is_up());
-            self.answered(answer, Some(index), || format!("link {index}"));
+            if self.links.is_up(index) != up {
+                note(format_args!("link {name} {}", up_or_down(up)));
+            }
+            self.links.note_link(index, up);
+            self.answered(answer, Some(index), || format!("link {name}"));
         }
     }
 
@@ -155,7 +159,7 @@ impl Host {
         self.traffic.insert(index, Traffic::default());
         self.links.note_link(index, up);
         self.answered(answer, Some(index), || format!("link {name}"));
-        say(format_args!("link {name} joined, {}", if up { "up" } else { "down" }));
+        note(format_args!("link {name} joined, {}", up_or_down(up)));
         true
     }
 
@@ -169,7 +173,7 @@ impl Host {
         self.links.forget_link(index);
         self.other_traffic.add(&Traffic { dropped: sockets.dropped(), ..self.traffic.remove(&index).unwrap_or_default() });
         self.around.said_addresses.remove(&index);
-        say(format_args!("link {name} left"));
+        note(format_args!("link {name} left"));
         if let Some(answer) = self.answered(answer, None, || format!("link {name} gone")) {
             if answer.leave != 0 {
                 report(format_args!("leaving the group on link {name}: {}", io::Error::from_raw_os_error(answer.leave as i32)));
@@ -189,15 +193,17 @@ impl Host {
             let address = *address;
             let answer = self.engine.new_address(index, &address.octets(), &mut self.outbox);
             self.links.note_address(index, address);
-            if self.answered(answer, Some(index), || format!("address {address} on link {index}")).is_none() {
+            let name = self.around.name(index);
+            if self.answered(answer, Some(index), || format!("address {address} on link {name}")).is_none() {
                 self.links.forget_address(index, address);
                 return;
             }
+            note(format_args!("address {address} on link {name}"));
         }
         let more = self.around.network.links[&index].addresses.len() - ADDRESSES;
         if more > 0 && self.around.said_addresses.insert(index) {
             let name = self.around.name(index);
-            report(format_args!("link {name} has more than {ADDRESSES} addresses: the others are left out until one of these has gone"));
+            remark(format_args!("link {name} has more than {ADDRESSES} addresses: the others are left out until one of these has gone"));
         }
     }
 
@@ -206,7 +212,16 @@ impl Host {
             let answer = self.engine.deleted_address(index, &address.octets());
             self.links.forget_address(index, address);
             self.around.said_addresses.remove(&index);
-            self.answered(answer, None, || format!("address {address} gone from link {index}"));
+            let name = self.around.name(index);
+            note(format_args!("address {address} gone from link {name}"));
+            self.answered(answer, None, || format!("address {address} gone from link {name}"));
         }
+    }
+}
+
+fn up_or_down(up: bool) -> &'static str {
+    match up {
+        true => "up",
+        false => "down",
     }
 }

@@ -1,5 +1,5 @@
 //! The command line.
-use crate::print::Level;
+use crate::print::{Level, Text};
 use std::ffi::OsString;
 use std::os::unix::ffi::OsStringExt;
 use std::path::{Path, PathBuf};
@@ -73,6 +73,7 @@ impl Arguments {
             match option.as_str() {
                 "--advertise" => {
                     let service = Advertisement { name: next("NAME")?, service_type: next("TYPE")?, location: next("LOCATION")? };
+                    check_location(&option, &service.location)?;
                     self.advertisements.push(service);
                 }
                 "--subscribe" => self.subscriptions.push(next("TYPE")?),
@@ -119,6 +120,16 @@ fn value(option: &str, wanted: &str, word: Option<OsString>) -> Result<Vec<u8>, 
     }
 }
 
+/// A location has a scheme and a host, or no client finds a description by it.
+fn check_location(option: &str, location: &[u8]) -> Result<(), String> {
+    let text = String::from_utf8_lossy(location);
+    let host = text.split_once("://").filter(|(scheme, _)| scheme.starts_with(|c: char| c.is_ascii_alphabetic())).map(|(_, rest)| rest);
+    match host.is_some_and(|host| host.starts_with(|c| !matches!(c, '/' | ':' | '?' | '#' | ' '))) {
+        true => Ok(()),
+        false => Err(format!("{option}: the location '{}' is no URL with a host, as http://unit/description.xml is", Text(location))),
+    }
+}
+
 fn number<T: std::str::FromStr>(option: &str, word: &[u8]) -> Result<T, String> {
     let word = String::from_utf8_lossy(word);
     word.parse().map_err(|_| format!("{option}: {word} is no number that fits"))
@@ -142,6 +153,17 @@ mod tests {
         assert_eq!(read.interfaces, ["e0"]);
         assert_eq!(read.level, Level::Normal);
         assert_eq!((read.seed, read.ttl, read.seconds, read.log_records), (Some(7), 2, Some(9), true));
+    }
+
+    #[test]
+    fn locations() {
+        for good in ["http://h/", "https://h", "HTTP://10.0.0.1:80/d.xml", "http://[::1]/"] {
+            assert!(read(&format!("--advertise u t {good}")).is_ok(), "{good}");
+        }
+        for wrong in ["", "noturl", "/d.xml", "//h/d.xml", "http:/h", "http://", "http:///d.xml", "http://:80/", "://h/"] {
+            let said = read(&format!("--advertise u t {wrong}")).unwrap_err();
+            assert_eq!(said, format!("--advertise: the location '{wrong}' is no URL with a host, as http://unit/description.xml is"));
+        }
     }
 
     #[test]

@@ -3,13 +3,13 @@ use crate::arguments::{Advertisement, Arguments};
 use crate::limit::{Kind, Limits};
 use crate::links::Links;
 use crate::output;
-use crate::print::{self, level, notification, remark, report, say, Counts, Level, Text};
+use crate::print::{self, level, note, notification, remark, report, say, Counts, Level, Text};
 use crate::settle::Surroundings;
 use crate::socket::{is_full, Received};
 use crate::sockets::Sockets;
 use crate::traffic::Traffic;
 use kohlsilk::{Answer, Engine, Message, Record, Refusal, GROUP, OUTBOX_SIZE};
-use std::collections::BTreeMap;
+use std::collections::{BTreeMap, BTreeSet};
 use std::fmt::{self, Display};
 use std::io;
 use std::net::Ipv4Addr;
@@ -30,6 +30,8 @@ pub struct Host {
     pub other_traffic: Traffic,
     subscriptions: Vec<Vec<u8>>,
     advertisements: Vec<Advertisement>,
+    /// Names and the addresses from which they were announced: what the engine made of the location was said for these.
+    announced: BTreeSet<(String, Ipv4Addr)>,
     start: Instant,
     log_records: bool,
     answer_anyone: bool,
@@ -50,6 +52,7 @@ impl Host {
             other_traffic: Traffic::default(),
             subscriptions: vec![],
             advertisements: vec![],
+            announced: BTreeSet::new(),
             start: Instant::now(),
             log_records: arguments.log_records,
             answer_anyone: arguments.answer_anyone,
@@ -94,6 +97,7 @@ impl Host {
     }
 
     fn withdraw(&mut self, service: &Advertisement) {
+        self.announced.retain(|(name, _)| name.as_bytes() != service.name);
         let answer = self.engine.deadvertise(&service.name, &mut self.outbox);
         self.answered(answer, None, || format!("deadvertise {}", Text(&service.name)));
     }
@@ -223,11 +227,26 @@ impl Host {
         }
     }
 
+    /// Says at which location a name is announced, the first time that this is done from an address: the engine makes the address its host.
+    fn say_location(&mut self, record: &Record) {
+        if let Ok(Message::NotifyAlive { unique_service_name: name, location, .. }) = kohlsilk::parse(record.message) {
+            if self.announced.insert((name.into(), record.source)) {
+                note(format_args!("announced {} at {}", Text(name.as_bytes()), Text(location.as_bytes())));
+            }
+        }
+    }
+
+    /// Forgets what was said of an address that has gone.
+    pub fn forget_announced(&mut self, address: Ipv4Addr) {
+        self.announced.retain(|(_, from)| *from != address);
+    }
+
     /// Sends a record by the sockets of a link, and counts it. A full queue is nothing to report: it is counted.
     fn send<T: Display>(&mut self, record: &Record, link: u32, what: &impl Fn() -> T) {
         if self.log_records {
             say(format_args!("{}", print::record(record)));
         }
+        self.say_location(record);
         let out_on = if record.destination == GROUP { link } else { 0 };
         let sent = match self.sockets.get(&link) {
             Some(sockets) => sockets.send(record, out_on),

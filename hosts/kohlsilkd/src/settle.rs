@@ -170,6 +170,7 @@ impl Host {
         let left = sockets.group.leave(index);
         let outcome = left.as_ref().map_or_else(error_number, |()| 0);
         let answer = self.engine.deleted_link(index, outcome);
+        self.links.addresses(index).to_vec().into_iter().for_each(|address| self.forget_announced(address));
         self.links.forget_link(index);
         self.other_traffic.add(&Traffic { dropped: sockets.dropped(), ..self.traffic.remove(&index).unwrap_or_default() });
         self.around.said_addresses.remove(&index);
@@ -211,6 +212,7 @@ impl Host {
         if self.links.addresses(index).contains(&address) {
             let answer = self.engine.deleted_address(index, &address.octets());
             self.links.forget_address(index, address);
+            self.forget_announced(address);
             self.around.said_addresses.remove(&index);
             let name = self.around.name(index);
             note(format_args!("address {address} gone from link {name}"));

@@ -126,7 +126,10 @@ fn take_news(host: &mut Host, netlink: &mut Netlink) -> io::Result<()> {
     let mut again = false;
     match netlink.receive() {
         Ok(news) => news.iter().for_each(|news| again |= host.on_news(news)),
-        Err(error) if error.raw_os_error() == Some(libc::ENOBUFS) => again = true,
+        Err(error) if error.raw_os_error() == Some(libc::ENOBUFS) => {
+            host.lost_news();
+            again = true;
+        }
         Err(error) if matches!(error.kind(), WouldBlock | Interrupted) => {}
         Err(error) => return Err(error),
     }

@@ -21,6 +21,8 @@ pub struct Surroundings {
     pub names: Vec<String>,
     /// A survey is under way: until its end nothing is chosen.
     surveying: bool,
+    /// News was lost since the latest survey began.
+    news_lost: bool,
     /// Links that could not be joined, and why. They are tried again when there is news of them.
     failed: BTreeMap<u32, String>,
     said_left_out: BTreeMap<u32, LeftOut>,
@@ -95,10 +97,25 @@ impl Host {
                 if whole {
                     around.network.forget_unseen();
                 }
+                if std::mem::take(&mut around.news_lost) {
+                    self.leave_all();
+                }
                 return !whole;
             }
         }
         false
+    }
+
+    /// The kernel had more news than it could keep.
+    pub fn lost_news(&mut self) {
+        self.around.news_lost = true;
+    }
+
+    /// Leaves all links, to be joined anew. A link may have gone and another come under its index, in which the group is not joined: after news
+    /// was lost nobody can tell.
+    fn leave_all(&mut self) {
+        remark(format_args!("news of links and addresses was lost: all links are joined anew"));
+        self.links.indexes().into_iter().for_each(|index| self.leave_link(index));
     }
 
     /// A survey begins.

@@ -1,5 +1,6 @@
 //! The engine among its sockets: each call's records are sent, its counts added up, its refusal reported.
 use crate::arguments::{Advertisement, Arguments};
+use crate::found::Found;
 use crate::limit::{Kind, Limits};
 use crate::links::Links;
 use crate::output;
@@ -12,7 +13,7 @@ use kohlsilk::{Answer, Engine, Message, Record, Refusal, GROUP, OUTBOX_SIZE};
 use std::collections::{BTreeMap, BTreeSet};
 use std::fmt::{self, Display};
 use std::io;
-use std::net::Ipv4Addr;
+use std::net::{Ipv4Addr, SocketAddrV4};
 use std::rc::Rc;
 use std::time::Instant;
 
@@ -29,6 +30,7 @@ pub struct Host {
     pub traffic: BTreeMap<u32, Traffic>,
     pub other_traffic: Traffic,
     subscriptions: Vec<Vec<u8>>,
+    found: Found,
     advertisements: Vec<Advertisement>,
     /// Names and the addresses from which they were announced: what the engine made of the location was said for these.
     announced: BTreeSet<(String, Ipv4Addr)>,
@@ -51,6 +53,7 @@ impl Host {
             traffic: BTreeMap::new(),
             other_traffic: Traffic::default(),
             subscriptions: vec![],
+            found: Found::default(),
             advertisements: vec![],
             announced: BTreeSet::new(),
             start: Instant::now(),
@@ -164,8 +167,11 @@ impl Host {
     pub fn on_datagram(&mut self, received: &Received, datagram: &[u8]) {
         let Received { sender, receiver, link, .. } = *received;
         self.traffic_of(link).heard += 1;
-        if !self.may_answer(received) && matches!(kohlsilk::parse(datagram), Ok(Message::Search { .. })) {
+        if !self.may_answer(received) && is_search(datagram) {
             self.traffic_of(link).off_link += 1;
+            return;
+        }
+        if self.is_own_port(&sender) && is_search(datagram) {
             return;
         }
         let answer = self.engine.on_data(self.now(), sender, receiver, datagram);
@@ -175,12 +181,16 @@ impl Host {
         };
         let Some(answer) = self.answered(answer, None, || format!("datagram from {sender}")) else { return };
         if let (1.., Ok(message)) = (answer.told, kohlsilk::parse(datagram)) {
-            let told: Vec<String> = answer
-                .subscriptions()
-                .filter_map(|k| self.subscriptions.get(k))
-                .map(|service_type| Text(service_type).to_string())
-                .collect();
-            let line = notification(&message).unwrap_or_default();
+            self.say_found(&answer, &message);
+        }
+    }
+
+    /// Prints a device that is new, has changed or has left, and the subscriptions that it concerns.
+    fn say_found(&mut self, answer: &Answer, message: &Message) {
+        if self.found.is_news(message) {
+            let told = answer.subscriptions().filter_map(|k| self.subscriptions.get(k));
+            let told: Vec<String> = told.map(|service_type| Text(service_type).to_string()).collect();
+            let line = notification(message).unwrap_or_default();
             say(format_args!("{line} (for {})", told.join(", ")));
         }
     }
@@ -211,6 +221,11 @@ impl Host {
     fn may_answer(&self, received: &Received) -> bool {
         let is_served = self.sockets.contains_key(&received.link);
         self.answer_anyone || self.around.may_answer(*received.sender.ip(), received.link, is_served)
+    }
+
+    /// Whether a datagram comes from one of the sockets that search: this machine hears what it sends to the group.
+    fn is_own_port(&self, sender: &SocketAddrV4) -> bool {
+        self.sockets.values().any(|sockets| sockets.search_port == sender.port()) && self.around.network.is_own(*sender.ip())
     }
 
     fn traffic_of(&mut self, link: u32) -> &mut Traffic {
@@ -264,6 +279,10 @@ impl Host {
             }
         }
     }
+}
+
+fn is_search(datagram: &[u8]) -> bool {
+    matches!(kohlsilk::parse(datagram), Ok(Message::Search { .. }))
 }
 
 /// The number of an error as an outcome, which is not 0.

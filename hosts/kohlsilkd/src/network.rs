@@ -94,7 +94,11 @@ impl Network {
     /// Whether an address is on a network of a link, or is this machine's own.
     pub fn is_near(&self, index: u32, address: Ipv4Addr) -> bool {
         let on_link = |link: &Link| link.addresses.values().any(|held| held.subnet.contains(address));
-        self.links.get(&index).is_some_and(on_link) || self.links.values().any(|link| link.addresses.contains_key(&address))
+        self.links.get(&index).is_some_and(on_link) || self.is_own(address)
+    }
+
+    pub fn is_own(&self, address: Ipv4Addr) -> bool {
+        self.links.values().any(|link| link.addresses.contains_key(&address))
     }
 
     pub fn begin_survey(&mut self) {

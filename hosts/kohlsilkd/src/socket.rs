@@ -48,6 +48,15 @@ impl Socket {
         Ok(socket)
     }
 
+    /// The port that it is bound to.
+    pub fn port(&self) -> io::Result<u16> {
+        let mut address = raw_address(SocketAddrV4::new(Ipv4Addr::UNSPECIFIED, 0));
+        let mut len = size_of_val(&address) as libc::socklen_t;
+        // SAFETY: `address` is writable for `len` bytes.
+        checked(unsafe { libc::getsockname(self.as_raw_fd(), (&raw mut address).cast(), &mut len) })?;
+        Ok(u16::from_be(address.sin_port))
+    }
+
     pub fn join(&self, index: u32) -> io::Result<()> {
         self.set(libc::IPPROTO_IP, libc::IP_ADD_MEMBERSHIP, &membership(index))
     }
@@ -234,12 +243,8 @@ mod tests {
         let socket = Socket::bound(0, 4).unwrap();
         socket.set(libc::SOL_SOCKET, libc::SO_RCVBUF, &4096i32).unwrap();
         let other = std::net::UdpSocket::bind("127.0.0.1:0").unwrap();
-        let mut name = raw_address(SocketAddrV4::new(Ipv4Addr::UNSPECIFIED, 0));
-        let mut len = size_of_val(&name) as libc::socklen_t;
-        // SAFETY: `name` is writable for `len` bytes.
-        checked(unsafe { libc::getsockname(socket.as_raw_fd(), (&raw mut name).cast(), &mut len) }).unwrap();
         for _ in 0..100 {
-            other.send_to(b"search", ("127.0.0.1", u16::from_be(name.sin_port))).unwrap();
+            other.send_to(b"search", ("127.0.0.1", socket.port().unwrap())).unwrap();
         }
         let mut heard = 0;
         while socket.receive(&mut [0; 16]).is_ok() {

@@ -7,14 +7,15 @@ use std::io;
 pub struct Sockets {
     pub group: Socket,
     pub search: Socket,
+    pub search_port: u16,
 }
 
 impl Sockets {
     /// Sockets that hear the group on a link.
     pub fn open(index: u32, ttl: u8) -> io::Result<Sockets> {
-        let sockets = Sockets { group: Socket::bound(GROUP.port(), ttl)?, search: Socket::bound(0, ttl)? };
-        sockets.group.join(index)?;
-        Ok(sockets)
+        let (group, search) = (Socket::bound(GROUP.port(), ttl)?, Socket::bound(0, ttl)?);
+        group.join(index)?;
+        Ok(Sockets { search_port: search.port()?, group, search })
     }
 
     pub fn both(&self) -> [&Socket; 2] {

@@ -1,17 +1,17 @@
-//! The engine among its sockets: each call's records are sent, its counts added up, its refusal reported.
+//! The engine and what the host keeps beside it: names, subscriptions, counts. Datagrams and instants are handed to it.
 use crate::arguments::{Advertisement, Arguments};
 use crate::found::Found;
 use crate::limit::{Kind, Limits};
 use crate::links::Links;
 use crate::output;
-use crate::print::{self, level, note, notification, remark, report, say, Counts, Level, Text};
+use crate::print::{level, notification, remark, say, Counts, Level, Text};
 use crate::settle::Surroundings;
-use crate::socket::{is_full, Received};
+use crate::socket::Received;
 use crate::sockets::Sockets;
 use crate::traffic::Traffic;
-use kohlsilk::{Answer, Engine, Message, Record, Refusal, GROUP, OUTBOX_SIZE};
+use kohlsilk::{Answer, Engine, Message, Refusal, OUTBOX_SIZE};
 use std::collections::{BTreeMap, BTreeSet};
-use std::fmt::{self, Display};
+use std::fmt;
 use std::io;
 use std::net::{Ipv4Addr, SocketAddrV4};
 use std::rc::Rc;
@@ -25,7 +25,7 @@ pub struct Host {
     pub sockets: BTreeMap<u32, Rc<Sockets>>,
     pub links: Links,
     pub around: Surroundings,
-    counts: Counts,
+    pub counts: Counts,
     /// Of each link that is held, and of all others: those that were left, and those that are not served.
     pub traffic: BTreeMap<u32, Traffic>,
     pub other_traffic: Traffic,
@@ -33,9 +33,9 @@ pub struct Host {
     found: Found,
     advertisements: Vec<Advertisement>,
     /// Names and the addresses from which they were announced: what the engine made of the location was said for these.
-    announced: BTreeSet<(String, Ipv4Addr)>,
+    pub announced: BTreeSet<(String, Ipv4Addr)>,
     start: Instant,
-    log_records: bool,
+    pub log_records: bool,
     answer_anyone: bool,
     limits: Limits,
 }
@@ -174,12 +174,11 @@ impl Host {
         if self.is_own_port(&sender) && is_search(datagram) {
             return;
         }
-        let answer = self.engine.on_data(self.now(), sender, receiver, datagram);
-        let answer = match answer {
+        let answer = match self.engine.on_data(self.now(), sender, receiver, datagram) {
+            Ok(answer) => answer,
             Err(refusal) => return self.report_limited(Kind::Refused(refusal.number()), format_args!("datagram from {sender}: {refusal}")),
-            answer => answer,
         };
-        let Some(answer) = self.answered(answer, None, || format!("datagram from {sender}")) else { return };
+        self.counts.add(&answer);
         if let (1.., Ok(message)) = (answer.told, kohlsilk::parse(datagram)) {
             self.say_found(&answer, &message);
         }
@@ -195,28 +194,6 @@ impl Host {
         }
     }
 
-    /// Reports a refusal, or sends the records of an answer: to the group on `link`, if the call was about one.
-    pub fn answered<T: Display>(&mut self, answer: Result<Answer, Refusal>, link: Option<u32>, what: impl Fn() -> T) -> Option<Answer> {
-        let answer = match answer {
-            Ok(answer) => answer,
-            Err(refusal) => {
-                report(format_args!("{}: {refusal}", what()));
-                return None;
-            }
-        };
-        self.counts.add(&answer);
-        // What is sent is read in the outbox while the counts change: for that time it is taken out of the host.
-        let outbox = std::mem::take(&mut self.outbox);
-        let mut turns = BTreeMap::new();
-        for sent in answer.records_in(&outbox) {
-            let turn = turns.entry(sent.source).or_insert(0);
-            self.send(&sent, link.unwrap_or_else(|| self.link_for(sent.source, *turn)), &what);
-            *turn += usize::from(sent.destination == GROUP);
-        }
-        self.outbox = outbox;
-        Some(answer)
-    }
-
     /// Whether a search from this sender is for the engine. Others could have replies sent to strangers, by a forged address.
     fn may_answer(&self, received: &Received) -> bool {
         let is_served = self.sockets.contains_key(&received.link);
@@ -228,56 +205,8 @@ impl Host {
         self.sockets.values().any(|sockets| sockets.search_port == sender.port()) && self.around.network.is_own(*sender.ip())
     }
 
-    fn traffic_of(&mut self, link: u32) -> &mut Traffic {
+    pub fn traffic_of(&mut self, link: u32) -> &mut Traffic {
         self.traffic.get_mut(&link).unwrap_or(&mut self.other_traffic)
-    }
-
-    /// The link by whose sockets a record from this source goes. A search may have reached an address that the engine does not hold: then the
-    /// link that has it.
-    fn link_for(&self, source: Ipv4Addr, turn: usize) -> u32 {
-        let has = |index: &u32| self.around.network.links.get(index).is_some_and(|link| link.addresses.contains_key(&source));
-        match self.links.link_of(source, turn) {
-            0 => self.sockets.keys().copied().find(has).unwrap_or(0),
-            index => index,
-        }
-    }
-
-    /// Says at which location a name is announced, the first time that this is done from an address: the engine makes the address its host.
-    fn say_location(&mut self, record: &Record) {
-        if let Ok(Message::NotifyAlive { unique_service_name: name, location, .. }) = kohlsilk::parse(record.message) {
-            if self.announced.insert((name.into(), record.source)) {
-                note(format_args!("announced {} at {}", Text(name.as_bytes()), Text(location.as_bytes())));
-            }
-        }
-    }
-
-    /// Forgets what was said of an address that has gone.
-    pub fn forget_announced(&mut self, address: Ipv4Addr) {
-        self.announced.retain(|(_, from)| *from != address);
-    }
-
-    /// Sends a record by the sockets of a link, and counts it. A full queue is nothing to report: it is counted.
-    fn send<T: Display>(&mut self, record: &Record, link: u32, what: &impl Fn() -> T) {
-        if self.log_records {
-            say(format_args!("{}", print::record(record)));
-        }
-        self.say_location(record);
-        let out_on = if record.destination == GROUP { link } else { 0 };
-        let sent = match self.sockets.get(&link) {
-            Some(sockets) => sockets.send(record, out_on),
-            None => Err(io::ErrorKind::NotConnected.into()),
-        };
-        let traffic = self.traffic_of(link);
-        match sent {
-            Ok(()) => traffic.sent += 1,
-            Err(error) => {
-                traffic.not_sent += 1;
-                if !is_full(&error) {
-                    let line = format!("{}: from {} to {}: {error}", what(), record.source, record.destination);
-                    self.report_limited(Kind::NotSent, format_args!("{line}"));
-                }
-            }
-        }
     }
 }
 

@@ -9,6 +9,7 @@ mod netlink;
 mod network;
 mod output;
 mod print;
+mod send;
 mod settle;
 mod socket;
 mod sockets;

@@ -97,7 +97,7 @@ impl Host {
                 if whole {
                     around.network.forget_unseen();
                 }
-                if std::mem::take(&mut around.news_lost) {
+                if whole && std::mem::take(&mut self.around.news_lost) {
                     self.leave_all();
                 }
                 return !whole;
@@ -212,11 +212,13 @@ impl Host {
             let answer = self.engine.new_address(index, &address.octets(), &mut self.outbox);
             self.links.note_address(index, address);
             let name = self.around.name(index);
+            if answer.is_ok() {
+                note(format_args!("address {address} on link {name}"));
+            }
             if self.answered(answer, Some(index), || format!("address {address} on link {name}")).is_none() {
                 self.links.forget_address(index, address);
                 return;
             }
-            note(format_args!("address {address} on link {name}"));
         }
         let more = self.around.network.links[&index].addresses.len() - ADDRESSES;
         if more > 0 && self.around.said_addresses.insert(index) {

@@ -20,6 +20,8 @@ pub struct Engine {
 impl Engine {
     /// An engine whose first refresh is due at `time`. The seed spreads delays: take a random one. Where the time is refused there is an
     /// engine all the same, which begins at time 0: the error holds it.
+    // The error is as large as the engine, since nothing is allocated here.
+    #[allow(clippy::result_large_err)]
     pub fn new(random_seed: u32, time: u64) -> Result<Engine, RefusedStart> {
         let mut engine = Engine { arrays: EngineArrays::BLANK, waiting: 0, poll: 0 };
         let answer = abi::new(&mut engine.arrays, random_seed, time);

@@ -82,27 +82,9 @@ pub text-fits : {r : List ℕ} (len place size : ℕ) (q : List ℕ) → r ≡ t
 text-fits len place size q e = omega (arith, ap length e, length-take len (take size (drop place q)), length-take size (drop place q))
 
 module _ (i : ℕ) (ns ts : List ℕ) (h : i < advertisementsMax) (b : length ts ≡ textsSize) where
-  text-at : (j place size : ℕ) → j < numbersWidth → place + size ≤ textsWidth
+  pub text-at : (j place size : ℕ) → j < numbersWidth → place + size ≤ textsWidth
       → textIn (getD ns (numbersWidth * i + j) 0) (textsWidth * i + place) size ts ≡ textIn (getD (row numbersWidth i ns) j 0) place size (row textsWidth i ts)
   text-at j place size g f = sym (λ k. take (number-at numbersWidth i ns j g k) (part-at textsWidth i ts place size f (omega arith) k))
-
-  pub name-at : textIn (getD ns (numbersWidth * i + 0) 0) (textsWidth * i) nameMax ts ≡ entryAt i ns ts .name
-  unfolding entryIn
-  name-at =
-      ap (λ (p : ℕ). textIn (getD ns (numbersWidth * i + 0) 0) p nameMax ts) (sym (add-zero (textsWidth * i)))
-      ∙ text-at 0 0 nameMax (omega arith) (omega arith)
-
-  pub service-at : textIn (getD ns (numbersWidth * i + 1) 0) (textsWidth * i + servicePlace) typeMax ts ≡ entryAt i ns ts .service
-  unfolding entryIn
-  service-at = text-at 1 servicePlace typeMax (omega arith) (omega arith)
-
-  pub location-at : textIn (getD ns (numbersWidth * i + 2) 0) (textsWidth * i + locationPlace) locationMax ts ≡ entryAt i ns ts .location
-  unfolding entryIn
-  location-at = text-at 2 locationPlace locationMax (omega arith) (omega arith)
-
-  pub answer-at : textIn (getD ns (numbersWidth * i + 3) 0) (textsWidth * i + answerPlace) typeMax ts ≡ entryAt i ns ts .answer
-  unfolding entryIn
-  answer-at = text-at 3 answerPlace typeMax (omega arith) (omega arith)
 
 pub location-fits : {r : List ℕ} (i : ℕ) (ns ts : List ℕ) → r ≡ entryAt i ns ts .location → length r ≤ locationMax
 unfolding entryIn

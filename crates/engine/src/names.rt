@@ -47,6 +47,7 @@ ghost use Rattle.engine.specs.Slots.{insertAt, removeAt};
 ghost use Rattle.engine.specs.Spot.{Spotted};
 ghost use Rattle.engine.specs.Held.{advertised, isLess};
 ghost use Rattle.engine.specs.Replies.{newcomer};
+ghost use Rattle.engine.specs.Rows.{row};
 ghost use Rattle.engine.specs.Shifts.{movedUp};
 ghost use Rattle.engine.specs.Arrays.{headPlaces, numbersWidth, numbersSize, textsWidth, textsSize, answerPlace, textIn, replyOf, replyIn, replyAt, entryIn, entryAt, entries, nameCount, namesIn, NameArrays};
 ghost use Rattle.engine.specs.Changes.{changeAt, blank, withActive, Replied, Answered, NewNumbers, NewTexts, Filled};
@@ -78,20 +79,34 @@ fn text_in(texts: &[u8], place: usize, size: usize, len: u64) -> &[u8]
     &texts[place..end]
 }
 
+// A text of row i, of at most `size` bytes, by the places of its length and of its first byte in the row.
+fn text_at<'a>(
+    numbers: &[u64],
+    texts: &'a [u8],
+    i: usize,
+    length_place: usize,
+    place: usize,
+    size: usize,
+) -> &'a [u8]
+    requires { ⌜ (i < advertisementsMax) × NameArrays (now numbers) (now texts) × («length_place» < numbersWidth) × (place + size ≤ textsWidth) ⌝ }
+    ensures { λ r. ⌜ now r ≡ textIn (getD (row numbersWidth i (now (numbers .entry))) «length_place» 0) place size (row textsWidth i (now (texts .entry))) ⌝ }
+{
+    let len = numbers[NUMBERS_WIDTH * i + length_place];
+    text_in(texts, TEXTS_WIDTH * i + place, size, len)
+}
+
 pub(crate) fn name_at<'a>(numbers: &[u64], texts: &'a [u8], i: usize) -> &'a [u8]
     requires { ⌜ (i < advertisementsMax) × NameArrays (now numbers) (now texts) ⌝ }
     ensures { λ r. ⌜ now r ≡ entryAt i (now (numbers .entry)) (now (texts .entry)) .name ⌝ }
 {
-    let len = numbers[NUMBERS_WIDTH * i + NAME_LENGTH];
-    text_in(texts, TEXTS_WIDTH * i, NAME_SIZE, len)
+    text_at(numbers, texts, i, NAME_LENGTH, 0, NAME_SIZE)
 }
 
 pub(crate) fn service_at<'a>(numbers: &[u64], texts: &'a [u8], i: usize) -> &'a [u8]
     requires { ⌜ (i < advertisementsMax) × NameArrays (now numbers) (now texts) ⌝ }
     ensures { λ r. ⌜ now r ≡ entryAt i (now (numbers .entry)) (now (texts .entry)) .service ⌝ }
 {
-    let len = numbers[NUMBERS_WIDTH * i + TYPE_LENGTH];
-    text_in(texts, TEXTS_WIDTH * i + TYPE_PLACE, TYPE_SIZE, len)
+    text_at(numbers, texts, i, TYPE_LENGTH, TYPE_PLACE, TYPE_SIZE)
 }
 
 pub(crate) fn location_at<'a>(numbers: &[u64], texts: &'a [u8], i: usize) -> &'a [u8]
@@ -99,8 +114,14 @@ pub(crate) fn location_at<'a>(numbers: &[u64], texts: &'a [u8], i: usize) -> &'a
     ensures { λ r. ⌜ now r ≡ entryAt i (now (numbers .entry)) (now (texts .entry)) .location ⌝ }
     ensures { λ r. ⌜ length (now r) ≤ locationMax ⌝ }
 {
-    let len = numbers[NUMBERS_WIDTH * i + LOCATION_LENGTH];
-    text_in(texts, TEXTS_WIDTH * i + LOCATION_PLACE, LOCATION_SIZE, len)
+    text_at(
+        numbers,
+        texts,
+        i,
+        LOCATION_LENGTH,
+        LOCATION_PLACE,
+        LOCATION_SIZE,
+    )
 }
 
 // A type's whole field of a row, from its place in the texts on.
@@ -242,18 +263,33 @@ pub(crate) fn store_reply(numbers: &mut [u64], i: usize, reply: ResponseNeeded)
     set_reply(&mut numbers[a..e], reply);
 }
 
+// A waiting reply that answers in a type of row i, by the places of that type's length and of its first byte in the row.
+fn active_in(
+    needed: ResponseNeeded,
+    numbers: &[u64],
+    texts: &[u8],
+    i: usize,
+    length_place: usize,
+    place: usize,
+) -> ActiveAdvertisement
+    requires { ⌜ (i < advertisementsMax) × NameArrays (now numbers) (now texts) × («length_place» < numbersWidth) × (place + typeMax ≤ textsWidth) ⌝ }
+    ensures { λ r. ⌜ (r .«response_needed» ≡ needed) × (take (r .«answer_len») (r .answer) ≡ textIn (getD (row numbersWidth i (now (numbers .entry))) «length_place» 0) place typeMax (row textsWidth i (now (texts .entry)))) ⌝ }
+{
+    let field = field_at(texts, TEXTS_WIDTH * i + place);
+    ActiveAdvertisement {
+        response_needed: needed,
+        answer: field,
+        answer_len: size_of(numbers[NUMBERS_WIDTH * i + length_place]),
+    }
+}
+
 // Takes out what searches and timeouts change of it.
 pub(crate) fn active_at(numbers: &[u64], texts: &[u8], i: usize) -> ActiveAdvertisement
     requires { ⌜ (i < advertisementsMax) × NameArrays (now numbers) (now texts) ⌝ }
     ensures { λ r. ⌜ (r .«response_needed» ≡ entryAt i (now (numbers .entry)) (now (texts .entry)) .needed) × (take (r .«answer_len») (r .answer) ≡ entryAt i (now (numbers .entry)) (now (texts .entry)) .answer) ⌝ }
 {
     let needed = reply_at(numbers, i);
-    let field = field_at(texts, TEXTS_WIDTH * i + ANSWER_PLACE);
-    ActiveAdvertisement {
-        response_needed: needed,
-        answer: field,
-        answer_len: size_of(numbers[NUMBERS_WIDTH * i + ANSWER_LENGTH]),
-    }
+    active_in(needed, numbers, texts, i, ANSWER_LENGTH, ANSWER_PLACE)
 }
 
 // A waiting reply for it that answers in its own type.
@@ -266,12 +302,7 @@ pub(crate) fn own_type_at(
     requires { ⌜ (i < advertisementsMax) × NameArrays (now numbers) (now texts) ⌝ }
     ensures { λ r. ⌜ (r .«response_needed» ≡ needed) × (take (r .«answer_len») (r .answer) ≡ entryAt i (now (numbers .entry)) (now (texts .entry)) .service) ⌝ }
 {
-    let field = field_at(texts, TEXTS_WIDTH * i + TYPE_PLACE);
-    ActiveAdvertisement {
-        response_needed: needed,
-        answer: field,
-        answer_len: size_of(numbers[NUMBERS_WIDTH * i + TYPE_LENGTH]),
-    }
+    active_in(needed, numbers, texts, i, TYPE_LENGTH, TYPE_PLACE)
 }
 
 // Puts it back.

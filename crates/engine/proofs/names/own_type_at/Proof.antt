@@ -1,41 +1,15 @@
--- The type's whole field with its length as stored.
-use mathlib.Core.Path.{refl, _∙_}
-use lib.ListN.{take}
-use Rattle.engine.proofs.NameRows as names
+-- The name's own type by its places in the row.
+use Rattle.engine.specs.Arrays.{entryIn}
 use borrow.Author.Needs.{needs}
 use Rattle.engine.proofs.names.own_type_at.Statement.{statement}
 use Rattle.engine.proofs.names.own_type_at.Tie as tie
 
-mul-field-at : tie.Need-mul-field-at
-mul-field-at c = search needs
-
-add-field-at : tie.Need-add-field-at
-add-field-at c = search needs
-
-field-at-requires : tie.Need-field-at-requires
-field-at-requires c κs = search needs
-
-mul-size-of : tie.Need-mul-size-of
-mul-size-of c = search needs
-
-add-size-of : tie.Need-add-size-of
-add-size-of c = search needs
-
-mul-size-of-2 : tie.Need-mul-size-of-2
-mul-size-of-2 c = search needs
-
-shared-slice-read-size-of : tie.Need-shared-slice-read-size-of
-shared-slice-read-size-of c = search needs
-
-size-of-requires : tie.Need-size-of-requires
-size-of-requires c κs = search needs
+active-in-requires : tie.Need-active-in-requires
+active-in-requires c κs = search needs
 
 returns : tie.Need-returns
-returns c =
-    let s = c .before .before .before .before .before in
-    (refl, (λ j. take (c .size-of .ensures j) (c .before .before .field-at .ensures j)) ∙ names.service-at (s .args .i) (s .args .numbers .now) (s .args .texts .now) (s .pre .0) (s .pre .1 .1))
+unfolding entryIn
+returns c = c .active-in .ensures
 
 pub own-type-at-spec : {M : Type 1} → statement M
-own-type-at-spec =
-    tie.close
-    (tie.spec mul-field-at add-field-at field-at-requires mul-size-of add-size-of mul-size-of-2 shared-slice-read-size-of size-of-requires returns)
+own-type-at-spec = tie.close (tie.spec active-in-requires returns)

@@ -1,43 +1,15 @@
--- The type of row i, by its place in the arrays.
-use mathlib.Core.Path.{_∙_}
-use Rattle.engine.proofs.NameRows as names
+-- The service of row i, by its places in the row.
+use Rattle.engine.specs.Arrays.{entryIn}
 use borrow.Author.Needs.{needs}
 use Rattle.engine.proofs.names.service_at.Statement.{statement}
 use Rattle.engine.proofs.names.service_at.Tie as tie
 
-mul-len : tie.Need-mul-len
-mul-len c = search needs
-
-add-len : tie.Need-add-len
-add-len c = search needs
-
-mul-len-2 : tie.Need-mul-len-2
-mul-len-2 c = search needs
-
-shared-slice-read-len : tie.Need-shared-slice-read-len
-shared-slice-read-len c = search needs
-
-mul-text-in : tie.Need-mul-text-in
-mul-text-in c = search needs
-
-add-text-in : tie.Need-add-text-in
-add-text-in c = search needs
-
-text-in-requires : tie.Need-text-in-requires
-text-in-requires c κs = search needs
+text-at-requires : tie.Need-text-at-requires
+text-at-requires c κs = search needs
 
 returns : tie.Need-returns
-returns c = let s = c .before .before .before .before in c .text-in .ensures ∙ names.service-at (s .args .i) (s .args .numbers .now) (s .args .texts .now) (s .pre .0) (s .pre .1 .1)
+unfolding entryIn
+returns c = c .text-at .ensures
 
 pub service-at-spec : {M : Type 1} → statement M
-service-at-spec =
-    tie.close
-    (tie.spec
-    mul-len
-    add-len
-    mul-len-2
-    shared-slice-read-len
-    mul-text-in
-    add-text-in
-    text-in-requires
-    returns)
+service-at-spec = tie.close (tie.spec text-at-requires returns)

@@ -8,7 +8,7 @@ use lib.ListN.{length, take, drop, length-drop, drop-of-length-le}
 use Rattle.console.specs.Input.{lineMax, Pending}
 use Rattle.engine.specs.Arrays.{Engine}
 use Rattle.console.specs.Command.{outboxMax}
-use Rattle.program.specs.Steps.{pieceMax, toPrint, pieces, Ready, Takes, Tells, Hands, Reads}
+use Rattle.program.specs.Steps.{pieceMax, toPrint, pieces, Ready, Takes, PrintsPiece, Hands, Reads}
 use Rattle.program.specs.declared.state.State.{State}
 use Rattle.program.proofs.Taking.{nothing-held}
 
@@ -28,8 +28,8 @@ _⨟_ {s″ = s″} {e″ = e″} {l″ = l″} {o″ = o″} {z = z} p q = reco
 pub took : {s s′ : State} {e e′ : Engine} {l l′ o o′ chunk text : List ℕ} {used : ℕ} → Takes s e l o chunk s′ e′ l′ o′ used text → Hands s e l o chunk s′ e′ l′ o′ (drop used chunk)
 took {text = text} t = record { text = text; prints = t .prints }
 
-pub told-piece : {s s′ : State} {o text : List ℕ} → Tells s o s′ text → (e : Engine) (l rest : List ℕ) → Hands s e l o rest s′ e l o rest
-told-piece {text = text} t e l rest = record { text = text; prints = λ later. t .prints e l (rest ++ later) }
+pub printed-piece : {s s′ : State} {o text : List ℕ} → PrintsPiece s o s′ text → (e : Engine) (l rest : List ℕ) → Hands s e l o rest s′ e l o rest
+printed-piece {text = text} t e l rest = record { text = text; prints = λ later. t .prints e l (rest ++ later) }
 
 -- a chunk is used up, part by part
 empty : (n : ℕ) → drop {A = ℕ} n [] ≡ []
@@ -66,20 +66,20 @@ reads-chunk {s} {s′} {s″} {e} {e′} {e″} {l} {l′} {l″} {o} {o′} {o�
     record { input = r .input ++ chunk; hands = whole ⨟ h }
 
 -- ---- what the next step asks
-pub ready-told : (s : State) {s′ : State} (l′ o : List ℕ) {o′ : List ℕ} (out : List ℕ) {out′ : List ℕ} → Pending (take (s .held) l′) l′ (s .held) → s′ .held ≡ s .held → s′ .telling ≡ false → length o ≡ outboxMax → length o′ ≡ length o
+pub ready-printed : (s : State) {s′ : State} (l′ o : List ℕ) {o′ : List ℕ} (out : List ℕ) {out′ : List ℕ} → Pending (take (s .held) l′) l′ (s .held) → s′ .held ≡ s .held → s′ .printing ≡ false → length o ≡ outboxMax → length o′ ≡ length o
     → pieceMax ≤ length out → length out′ ≡ length out → Ready s′ l′ o′ out′
-ready-told s {s′} l′ o out p h t e q n r = record {
+ready-printed s {s′} l′ o out p h t e q n r = record {
   under = subst (λ (k : ℕ). Pending (take k l′) l′ k) (sym h) p;
-  told = t;
+  printed = t;
   lent = q ∙ e;
   room = omega (arith, n, r);
 }
 
-pub ready-first : (s : State) (line outbox out : List ℕ) → s .held ≡ 0 → s .telling ≡ false → lineMax + 2 ≤ length line → length outbox ≡ outboxMax → pieceMax ≤ length out → Ready s line outbox out
-ready-first s line outbox out h t l o n = record { under = nothing-held line l h; told = t; lent = o; room = n }
+pub ready-first : (s : State) (line outbox out : List ℕ) → s .held ≡ 0 → s .printing ≡ false → lineMax + 2 ≤ length line → length outbox ≡ outboxMax → pieceMax ≤ length out → Ready s line outbox out
+ready-first s line outbox out h t l o n = record { under = nothing-held line l h; printed = t; lent = o; room = n }
 
 -- pieces are due until none is
-pub no-pieces : (s : State) → s .telling ≡ true → 0 < pieces s
+pub no-pieces : (s : State) → s .printing ≡ true → 0 < pieces s
 no-pieces s t = rw t (omega arith)
 
 -- a part of a chunk that was taken in

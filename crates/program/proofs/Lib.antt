@@ -4,5 +4,5 @@ pub mod Handing
 pub mod Lines
 pub mod Replying
 pub mod Taking
-pub mod Telling
+pub mod PrintsDue
 pub mod Whole

@@ -27,7 +27,7 @@ use Rattle.dialogue.specs.Subjects.{Among}
 use Rattle.dialogue.specs.Outbox.{mark}
 use Rattle.dialogue.specs.declared.session.Reply.{Reply}
 use Rattle.dialogue.proofs.Commands.{but, never, by-number}
-use Rattle.program.specs.Program.{Session, Before, Running, Given, firstLent, unread, recordLines, stain, told, gives, reply, commandOf, lentIn}
+use Rattle.program.specs.Program.{Session, Before, Running, Given, firstLent, unread, recordLines, stain, printout, gives, reply, commandOf, lentIn}
 use Rattle.program.specs.Steps.{sessionOf, sessionIn, due, Gives, replyText, replied, marked, lends}
 use Rattle.program.specs.declared.state.State.{State}
 
@@ -46,23 +46,23 @@ lent-in true lent e p = ap (min lent) p
 lent-in false lent e p = omega arith
 
 -- an answer's text: at once and then
-told-text : (traced : Bool) (r : Reply) (s′ : State) (outbox : List ℕ) → r .heard ≡ true → s′ .telling ≡ (r .heard && traced) → s′ .next ≡ 0 → s′ .records ≡ r .answer .records
-    → replyText traced r ++ due s′ outbox ≡ told traced (r .answer) (take (s′ .room) outbox)
-unfolding replyText due told
-told-text false r s′ outbox h t n k = rw (h, t, h) (append-nil (answerLine (r .answer) ++ []) ∙ append-nil (answerLine (r .answer)))
-told-text true r s′ outbox h t n k =
+printout-text : (traced : Bool) (r : Reply) (s′ : State) (outbox : List ℕ) → r .heard ≡ true → s′ .printing ≡ (r .heard && traced) → s′ .next ≡ 0 → s′ .records ≡ r .answer .records
+    → replyText traced r ++ due s′ outbox ≡ printout traced (r .answer) (take (s′ .room) outbox)
+unfolding replyText due printout
+printout-text false r s′ outbox h t n k = rw (h, t, h) (append-nil (answerLine (r .answer) ++ []) ∙ append-nil (answerLine (r .answer)))
+printout-text true r s′ outbox h t n k =
     let z : r .answer .records - 0 ≡ r .answer .records = omega arith in
     rw (h, t, h, n, k, z) (append-assoc (answerLine (r .answer)) (newsLine (r .answer)) _)
 
-unheard-text : (traced : Bool) (r : Reply) (s′ : State) (outbox : List ℕ) → r .heard ≡ false → s′ .telling ≡ (r .heard && traced) → replyText traced r ++ due s′ outbox ≡ bytes "?\n"
+unheard-text : (traced : Bool) (r : Reply) (s′ : State) (outbox : List ℕ) → r .heard ≡ false → s′ .printing ≡ (r .heard && traced) → replyText traced r ++ due s′ outbox ≡ bytes "?\n"
 unfolding replyText due
 unheard-text traced r s′ outbox h t = rw (h, t, h) (append-nil (bytes "?\n"))
 
 -- only `trace` looks at the outbox
-told-same : (traced : Bool) {a a′ : Answer} {o o′ : List ℕ} → a ≡ a′ → (traced ≡ true → o ≡ o′) → told traced a o ≡ told traced a′ o′
-unfolding told
-told-same false p q = ap answerLine p
-told-same true {a} {a′} {o} {o′} p q =
+printout-same : (traced : Bool) {a a′ : Answer} {o o′ : List ℕ} → a ≡ a′ → (traced ≡ true → o ≡ o′) → printout traced a o ≡ printout traced a′ o′
+unfolding printout
+printout-same false p q = ap answerLine p
+printout-same true {a} {a′} {o} {o′} p q =
     ap (λ (x : Answer). answerLine x ++ (newsLine x ++ (recordLines (x .records) 0 o ++ stain (x .records) o))) p
     ∙ ap (λ (x : List ℕ). answerLine a′ ++ (newsLine a′ ++ (recordLines (a′ .records) 0 x ++ stain (a′ .records) x))) (q refl)
 
@@ -104,8 +104,8 @@ heard-begin s seed time {e′} {o} {o′} {outbox′} {text} {r} is b u =
       after = ap (λ (t : Bool). cond (r .begun) (Running (held e′) (cond t (s .lent) firstLent)) Before) b
           ∙ beginning firstLent (u .begun ∙ ap (λ (a : Answer). eqb (a .refusal) 0) (u .begins .answer)) (u .begins .engine);
       text = ap (λ (l : List ℕ). l ++ due (replied s r) outbox′) is
-          ∙ told-text (s .traced) r (replied s r) outbox′ (u .heard) refl refl refl
-          ∙ told-same (s .traced) (u .begins .answer) (λ t. ap (λ (q : Bool). take (cond q (s .lent) 0) outbox′) b);
+          ∙ printout-text (s .traced) r (replied s r) outbox′ (u .heard) refl refl refl
+          ∙ printout-same (s .traced) (u .begins .answer) (λ t. ap (λ (q : Bool). take (cond q (s .lent) 0) outbox′) b);
     }
 
 marked-lent : (lent : ℕ) (outbox : List ℕ) → length outbox ≡ outboxMax → marked true (take lent outbox) ≡ replicate (min lent outboxMax) mark
@@ -122,8 +122,8 @@ heard-call s outbox {e} {e′} {outbox′} {text} {r} size is b c u =
       held = refl;
       after = ap (λ (t : Bool). cond (r .begun) (Running (held e′) (cond t (s .lent) firstLent)) Before) b ∙ running (r .begun) (s .lent) (u .begun) (u .answers .engine);
       text = ap (λ (l : List ℕ). l ++ due (replied s r) outbox′) is
-          ∙ told-text (s .traced) r (replied s r) outbox′ (u .heard) refl refl refl
-          ∙ told-same (s .traced) (u .answers .answer)
+          ∙ printout-text (s .traced) r (replied s r) outbox′ (u .heard) refl refl refl
+          ∙ printout-same (s .traced) (u .answers .answer)
           (λ t. ap (λ (q : Bool). take (cond q (s .lent) 0) outbox′) b ∙ u .answers .sent
           ∙ ap (λ (q : Bool). written (x .sent) (marked q (take (s .lent) outbox))) t ∙ ap (written (x .sent)) (marked-lent (s .lent) outbox size));
     }
@@ -163,7 +163,7 @@ given-reply s l k outbox {e} {e′} {outbox′} {text} {r} {room} {s′} size p 
 
 -- `?`, and `ok`
 abbrev pub quiet : State → ℕ → State
-quiet s n = record { traced = s .traced; begun = s .begun; lent = n; held = 0; telling = false; room = 0; next = 0; records = 0 }
+quiet s n = record { traced = s .traced; begun = s .begun; lent = n; held = 0; printing = false; room = 0; next = 0; records = 0 }
 
 quiet-text : (s : State) (n : ℕ) (outbox : List ℕ) {text u : List ℕ} → text ≡ u → text ++ due (quiet s n) outbox ≡ u
 unfolding due
@@ -256,7 +256,7 @@ unfolding replyText
 reply-news traced r h f p = rw (h, f) p
 
 pub replied-as : (s : State) (r : Reply) {lent room : ℕ} → lent ≡ cond (s .begun) (s .lent) firstLent → room ≡ cond (s .begun) (s .lent) 0
-    → _≡_ {A = State} (record { traced = s .traced; begun = r .begun; lent = lent; held = 0; telling = r .heard && s .traced; room = room; next = 0; records = r .answer .records }) (replied s r)
+    → _≡_ {A = State} (record { traced = s .traced; begun = r .begun; lent = lent; held = 0; printing = r .heard && s .traced; room = room; next = 0; records = r .answer .records }) (replied s r)
 replied-as s r {lent} {room} p q =
-    ap (λ (x : ℕ). record { traced = s .traced; begun = r .begun; lent = x; held = 0; telling = r .heard && s .traced; room = room; next = 0; records = r .answer .records }) p
-    ∙ ap (λ (x : ℕ). record { traced = s .traced; begun = r .begun; lent = cond (s .begun) (s .lent) firstLent; held = 0; telling = r .heard && s .traced; room = x; next = 0; records = r .answer .records }) q
+    ap (λ (x : ℕ). record { traced = s .traced; begun = r .begun; lent = x; held = 0; printing = r .heard && s .traced; room = room; next = 0; records = r .answer .records }) p
+    ∙ ap (λ (x : ℕ). record { traced = s .traced; begun = r .begun; lent = cond (s .begun) (s .lent) firstLent; held = 0; printing = r .heard && s .traced; room = x; next = 0; records = r .answer .records }) q

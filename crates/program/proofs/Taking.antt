@@ -35,12 +35,12 @@ nothing-held line room p =
     take-none zero = refl
     take-none (suc k) = refl
 
-no-due : (s : State) (outbox : List ℕ) → s .telling ≡ false → due s outbox ≡ []
+no-due : (s : State) (outbox : List ℕ) → s .printing ≡ false → due s outbox ≡ []
 unfolding due
 no-due s outbox t = rw t
 
 -- a line that has ended was answered
-answered : (s : State) (e : Engine) {e′ : Engine} (line outbox all line′ rest : List ℕ) {outbox′ text : List ℕ} {s′ : State} (h : Heard) → s .telling ≡ false
+answered : (s : State) (e : Engine) {e′ : Engine} (line outbox all line′ rest : List ℕ) {outbox′ text : List ℕ} {s′ : State} (h : Heard) → s .printing ≡ false
     → Gives (reply (s .traced) (sessionIn s e) h) (s .traced) e′ outbox′ text s′
     → input (take (s .held) line ++ all) ≡ h ∷ input rest
     → toPrint s e line outbox all ≡ text ++ toPrint s′ e′ line′ outbox′ rest
@@ -103,7 +103,7 @@ used-ended n used all = go (leb n lineMax)
     go false = refl
 
 module _ (s : State) {e e′ : Engine} {line line′ outbox outbox′ chunk text : List ℕ} {used : ℕ} {s′ : State} {event : Event}
-    (under : Pending (take (s .held) line) line (s .held)) (told : s .telling ≡ false) (g : Gathers line (s .held) chunk line′ event)
+    (under : Pending (take (s .held) line) line (s .held)) (printed : s .printing ≡ false) (g : Gathers line (s .held) chunk line′ event)
     (r : Replies event s e line′ outbox e′ outbox′ text s′) (u : used ≡ usedBy event (length chunk)) where
   -- the line ends in this chunk
   takes-end : event ≡ ended (length (bare (take (s .held) line ++ upTo chunk))) (suc (indexOf 10 chunk)) → indexOf 10 chunk < length chunk
@@ -118,7 +118,7 @@ module _ (s : State) {e e′ : Engine} {line line′ outbox outbox′ chunk text
         some = λ k. omega (arith, n);
         most = omega (arith, n);
         prints = λ later.
-            answered s e line outbox (chunk ++ later) line′ (drop used chunk ++ later) (heard (bare (t ++ upTo chunk))) told a
+            answered s e line outbox (chunk ++ later) line′ (drop used chunk ++ later) (heard (bare (t ++ upTo chunk))) printed a
             (line-ended t chunk later (under .unended) h ∙ ap (λ (k : ℕ). heard (bare (t ++ upTo chunk)) ∷ input (drop k chunk ++ later)) (sym n));
       }
 
@@ -149,10 +149,10 @@ module _ (s : State) {e e′ : Engine} {line line′ outbox outbox′ chunk text
       }
 
 pub takes : (s : State) {e e′ : Engine} {line line′ outbox outbox′ chunk text : List ℕ} {used : ℕ} {s′ : State} {event : Event}
-    → Pending (take (s .held) line) line (s .held) → s .telling ≡ false → Gathers line (s .held) chunk line′ event
+    → Pending (take (s .held) line) line (s .held) → s .printing ≡ false → Gathers line (s .held) chunk line′ event
     → Replies event s e line′ outbox e′ outbox′ text s′ → used ≡ usedBy event (length chunk) → Takes s e line outbox chunk s′ e′ line′ outbox′ used text
 unfolding gathered
-takes s {e} {e′} {line} {line′} {outbox} {outbox′} {chunk} {text} {used} {s′} {event} under told g r u =
+takes s {e} {e′} {line} {line′} {outbox} {outbox′} {chunk} {text} {used} {s′} {event} under printed g r u =
     go (ltb (indexOf 10 chunk) (length chunk)) refl (g .event (take (s .held) line) under)
   where
     t : List ℕ
@@ -161,8 +161,8 @@ takes s {e} {e′} {line} {line′} {outbox} {outbox′} {chunk} {text} {used} {
     go : (q : Bool) → ltb (indexOf 10 chunk) (length chunk) ≡ q
         → event ≡ cond q (ended (length (bare (take (s .held) line ++ upTo chunk))) (suc (indexOf 10 chunk))) (More (min (length (take (s .held) line ++ upTo chunk)) (length line)))
         → Takes s e line outbox chunk s′ e′ line′ outbox′ used text
-    go true p q = takes-end s under told g r u q (ltb-true (indexOf 10 chunk) (length chunk) p)
-    go false p q = takes-more s under told g r u (min (length (take (s .held) line ++ upTo chunk)) (length line)) q refl (ltb-false (indexOf 10 chunk) (length chunk) p)
+    go true p q = takes-end s under printed g r u q (ltb-true (indexOf 10 chunk) (length chunk) p)
+    go false p q = takes-more s under printed g r u (min (length (take (s .held) line ++ upTo chunk)) (length line)) q refl (ltb-false (indexOf 10 chunk) (length chunk) p)
 
 empty : input [] ≡ []
 unfolding input lines
@@ -170,10 +170,10 @@ empty = refl
 
 -- the input ends: what is under way is its last line, if there is anything
 pub finishes : (s : State) {e e′ : Engine} {line outbox outbox′ text : List ℕ} {s′ : State} {event : Event}
-    → Pending (take (s .held) line) line (s .held) → s .telling ≡ false → event ≡ finished (take (s .held) line)
+    → Pending (take (s .held) line) line (s .held) → s .printing ≡ false → event ≡ finished (take (s .held) line)
     → Replies event s e line outbox e′ outbox′ text s′ → Finishes s e line outbox s′ e′ outbox′ text
 unfolding finished
-finishes s {e} {e′} {line} {outbox} {outbox′} {text} {s′} {event} under told f r = go (take (s .held) line) refl f
+finishes s {e} {e′} {line} {outbox} {outbox′} {text} {s′} {event} under printed f r = go (take (s .held) line) refl f
   where
     go : (t : List ℕ) → take (s .held) line ≡ t → event ≡ finished t → Finishes s e line outbox s′ e′ outbox′ text
     go [] p q =
@@ -188,7 +188,7 @@ finishes s {e} {e′} {line} {outbox} {outbox′} {text} {s′} {event} under to
         record {
           held = a .held;
           prints =
-              answered s e line outbox [] line [] (heard (bare (b ∷ w))) told a
+              answered s e line outbox [] line [] (heard (bare (b ∷ w))) printed a
               (ap input (append-nil (take (s .held) line) ∙ p) ∙ input-last b w (ap (all noEnd) (sym p) ∙ under .unended) ∙ ap (λ (ls : List Heard). heard (bare (b ∷ w)) ∷ ls) (sym empty));
         }
 

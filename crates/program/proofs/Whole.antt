@@ -8,44 +8,44 @@ use Rattle.text.specs.Lines.{lines}
 use Rattle.console.specs.Input.{input}
 use Rattle.program.specs.Program.{printed, program}
 use Rattle.program.specs.Steps.{due, toPrint}
-use Rattle.program.specs.Runs.{Moment, remains, Telling, told, piece, Chunk, used-up, part, Run, end, chunk, joined}
+use Rattle.program.specs.Runs.{Moment, remains, PrintsDue, none-due, piece, Chunk, used-up, part, Run, end, chunk, joined}
 
-telling-prints : {m m′ : Moment} {text : List ℕ} → Telling m m′ text → (later : List ℕ) → remains m later ≡ text ++ remains m′ later
-telling-prints (told p) later = refl
-telling-prints (piece {s} {s′} {e} {line} {outbox} {text} {more} {m} t r) later =
-    t .prints e line later ∙ ap (λ (l : List ℕ). text ++ l) (telling-prints r later) ∙ sym (append-assoc text more (remains m later))
+due-prints : {m m′ : Moment} {text : List ℕ} → PrintsDue m m′ text → (later : List ℕ) → remains m later ≡ text ++ remains m′ later
+due-prints (none-due p) later = refl
+due-prints (piece {s} {s′} {e} {line} {outbox} {text} {more} {m} t r) later =
+    t .prints e line later ∙ ap (λ (l : List ℕ). text ++ l) (due-prints r later) ∙ sym (append-assoc text more (remains m later))
 
-telling-told : {m m′ : Moment} {text : List ℕ} → Telling m m′ text → m′ .state .telling ≡ false
-telling-told (told p) = p
-telling-told (piece t r) = telling-told r
+due-printed : {m m′ : Moment} {text : List ℕ} → PrintsDue m m′ text → m′ .state .printing ≡ false
+due-printed (none-due p) = p
+due-printed (piece t r) = due-printed r
 
-telling-held : {m m′ : Moment} {text : List ℕ} → Telling m m′ text → m′ .state .held ≡ m .state .held
-telling-held (told p) = refl
-telling-held (piece t r) = telling-held r ∙ t .held
+due-held : {m m′ : Moment} {text : List ℕ} → PrintsDue m m′ text → m′ .state .held ≡ m .state .held
+due-held (none-due p) = refl
+due-held (piece t r) = due-held r ∙ t .held
 
 pub chunk-prints : {m m′ : Moment} {c text : List ℕ} → Chunk m c m′ text → (later : List ℕ) → remains m (c ++ later) ≡ text ++ remains m′ later
 chunk-prints used-up later = refl
 chunk-prints (part {s} {s′} {e} {e′} {line} {line′} {outbox} {outbox′} {chunk = c} {text} {more} {rest} {used} {m} {m′} t u r) later =
     t .prints later
     ∙ ap (λ (l : List ℕ). text ++ l)
-    (telling-prints u (drop used c ++ later) ∙ ap (λ (l : List ℕ). more ++ l) (chunk-prints r later) ∙ sym (append-assoc more rest (remains m′ later)))
+    (due-prints u (drop used c ++ later) ∙ ap (λ (l : List ℕ). more ++ l) (chunk-prints r later) ∙ sym (append-assoc more rest (remains m′ later)))
     ∙ sym (append-assoc text (more ++ rest) (remains m′ later))
 
 -- nothing is left of a program that has finished
-nothing-left : (m : Moment) → m .state .telling ≡ false → m .state .held ≡ 0 → remains m [] ≡ []
+nothing-left : (m : Moment) → m .state .printing ≡ false → m .state .held ≡ 0 → remains m [] ≡ []
 unfolding toPrint due input lines printed
 nothing-left m p q = rw (p, q)
 
 pub run-prints : {m : Moment} {cs : List (List ℕ)} {text : List ℕ} → Run m cs text → remains m (joined cs) ≡ text
 run-prints (end {s} {s′} {e} {e′} {line} {outbox} {outbox′} {text} {more} {m} f t) =
     f .prints
-    ∙ ap (λ (l : List ℕ). text ++ l) (telling-prints t [] ∙ ap (λ (l : List ℕ). more ++ l) (nothing-left m (telling-told t) (telling-held t ∙ f .held)) ∙ append-nil more)
+    ∙ ap (λ (l : List ℕ). text ++ l) (due-prints t [] ∙ ap (λ (l : List ℕ). more ++ l) (nothing-left m (due-printed t) (due-held t ∙ f .held)) ∙ append-nil more)
 run-prints (chunk {m} {m′} {c} {text} {rest} {cs} t r) = chunk-prints t (joined cs) ∙ ap (λ (l : List ℕ). text ++ l) (run-prints r)
 
 -- from the program's start on
-start-prints : (m : Moment) (later : List ℕ) → m .state .begun ≡ false → m .state .held ≡ 0 → m .state .telling ≡ false → remains m later ≡ program (m .state .traced) later
+start-prints : (m : Moment) (later : List ℕ) → m .state .begun ≡ false → m .state .held ≡ 0 → m .state .printing ≡ false → remains m later ≡ program (m .state .traced) later
 unfolding toPrint due program
 start-prints m later b h t = rw (t, b, h)
 
-pub whole : {m : Moment} {cs : List (List ℕ)} {text : List ℕ} → m .state .begun ≡ false → m .state .held ≡ 0 → m .state .telling ≡ false → Run m cs text → text ≡ program (m .state .traced) (joined cs)
+pub whole : {m : Moment} {cs : List (List ℕ)} {text : List ℕ} → m .state .begun ≡ false → m .state .held ≡ 0 → m .state .printing ≡ false → Run m cs text → text ≡ program (m .state .traced) (joined cs)
 whole {m} {cs} b h t r = sym (run-prints r) ∙ start-prints m (joined cs) b h t

@@ -50,16 +50,16 @@ unfoldable pub stain : ℕ → List ℕ → List ℕ
 stain n outbox = cond (clean n outbox) [] (bytes "!\n")
 
 -- of an answer, and of the outbox after it
-unfoldable pub told : Bool → Answer → List ℕ → List ℕ
-told false a outbox = answerLine a
-told true a outbox = answerLine a ++ (newsLine a ++ (recordLines (a .records) 0 outbox ++ stain (a .records) outbox))
+unfoldable pub printout : Bool → Answer → List ℕ → List ℕ
+printout false a outbox = answerLine a
+printout true a outbox = answerLine a ++ (newsLine a ++ (recordLines (a .records) 0 outbox ++ stain (a .records) outbox))
 
 -- `new` is lent no outbox; for any other call of `trace` every byte that is lent is marked
 abbrev pub begins : Bool → Step → Given
-begins traced x = record { text = told traced (x .answer) []; after = cond (eqb (x .answer .refusal) 0) (Running (x .after) firstLent) Before }
+begins traced x = record { text = printout traced (x .answer) []; after = cond (eqb (x .answer .refusal) 0) (Running (x .after) firstLent) Before }
 
 abbrev pub calls : Bool → ℕ → Step → Given
-calls traced n x = record { text = told traced (x .answer) (written (x .sent) (replicate (min n outboxMax) mark)); after = Running (x .after) n }
+calls traced n x = record { text = printout traced (x .answer) (written (x .sent) (replicate (min n outboxMax) mark)); after = Running (x .after) n }
 
 unfoldable pub gives : Bool → Session → Asked → Given
 gives traced Before Nothing = unread Before

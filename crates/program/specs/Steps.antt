@@ -28,10 +28,10 @@ sessionOf begun lent e = cond begun (Running (held e) lent) Before
 abbrev pub sessionIn : State → Engine → Session
 sessionIn s e = sessionOf (s .begun) (s .lent) e
 
--- what is still to be told of the last answer: the records from `next` on
+-- what is still to be printed of the last answer: the records from `next` on
 unfoldable pub due : State → List ℕ → List ℕ
 due s outbox =
-    cond (s .telling)
+    cond (s .printing)
     (recordLines (s .records - s .next) (s .next) (take (s .room) outbox) ++ stain (s .records) (take (s .room) outbox))
     []
 
@@ -56,7 +56,7 @@ replied s r = record {
   begun = r .begun;
   lent = cond (s .begun) (s .lent) firstLent;
   held = 0;
-  telling = r .heard && s .traced;
+  printing = r .heard && s .traced;
   room = cond (s .begun) (s .lent) 0;
   next = 0;
   records = r .answer .records;
@@ -76,7 +76,7 @@ lends (Of c) = false
 -- a line under way, nothing due, and room for what may come
 pub record Ready (s : State) (line outbox out : List ℕ) : Type 0 where
   pub under : Pending (take (s .held) line) line (s .held)
-  pub told : s .telling ≡ false
+  pub printed : s .printing ≡ false
   pub lent : length outbox ≡ outboxMax
   pub room : pieceMax ≤ length out
 
@@ -87,7 +87,7 @@ holding s n = record {
   begun = s .begun;
   lent = s .lent;
   held = n;
-  telling = s .telling;
+  printing = s .printing;
   room = s .room;
   next = s .next;
   records = s .records;
@@ -119,10 +119,10 @@ pub record Finishes (s : State) (e : Engine) (line outbox : List ℕ) (s′ : St
 
 -- how many pieces are due
 abbrev pub pieces : State → ℕ
-pieces s = cond (s .telling) (suc (s .records - s .next)) 0
+pieces s = cond (s .printing) (suc (s .records - s .next)) 0
 
--- a piece of what is due was told
-pub record Tells (s : State) (outbox : List ℕ) (s′ : State) (text : List ℕ) : Type 0 where
+-- a piece of what is due was printed
+pub record PrintsPiece (s : State) (outbox : List ℕ) (s′ : State) (text : List ℕ) : Type 0 where
   pub held : s′ .held ≡ s .held
   pub fewer : pieces s′ < pieces s
   pub prints : (e : Engine) (line later : List ℕ) → toPrint s e line outbox later ≡ text ++ toPrint s′ e line outbox later

@@ -16,13 +16,13 @@ ghost use Rattle.program.specs.Steps.{replied, holding};
 pub const LINE_SIZE: usize = LINE_MAX + 2;
 
 // Whether the program is `trace`; whether an engine has begun, and how many bytes are lent to its calls; how much of a line has come. While an answer is
-// still told: how many bytes were lent to its call, the record that is told next, and how many there are.
+// still printed: how many bytes were lent to its call, the record that is printed next, and how many there are.
 pub struct State {
     pub traced: bool,
     pub begun: bool,
     pub lent: usize,
     pub held: usize,
-    pub telling: bool,
+    pub printing: bool,
     pub room: usize,
     pub next: usize,
     pub records: usize,
@@ -30,14 +30,14 @@ pub struct State {
 
 // Before the first line.
 pub fn start(traced: bool) -> State
-    ensures { λ r. ⌜ (r .traced ≡ traced) × (r .begun ≡ false) × (r .held ≡ 0) × (r .telling ≡ false) ⌝ }
+    ensures { λ r. ⌜ (r .traced ≡ traced) × (r .begun ≡ false) × (r .held ≡ 0) × (r .printing ≡ false) ⌝ }
 {
     State {
         traced: traced,
         begun: false,
         lent: 0,
         held: 0,
-        telling: false,
+        printing: false,
         room: 0,
         next: 0,
         records: 0,
@@ -67,7 +67,7 @@ pub(crate) fn with_held(s: State, held: usize) -> State
         begun: s.begun,
         lent: s.lent,
         held: held,
-        telling: s.telling,
+        printing: s.printing,
         room: s.room,
         next: s.next,
         records: s.records,
@@ -88,7 +88,7 @@ fn lent_after(s: State) -> usize
     if s.begun { s.lent } else { OUTBOX_SIZE }
 }
 
-// A line has got its reply, of which `trace` still tells the records.
+// A line has got its reply, of which `trace` still prints the records.
 pub(crate) fn after_reply(s: State, r: Reply) -> State
     ensures { λ q. ⌜ q ≡ replied s r ⌝ }
 {
@@ -97,7 +97,7 @@ pub(crate) fn after_reply(s: State, r: Reply) -> State
         begun: r.begun,
         lent: lent_after(s),
         held: 0,
-        telling: r.heard & s.traced,
+        printing: r.heard & s.traced,
         room: room_of(s),
         next: 0,
         records: r.answer.records,
@@ -106,30 +106,30 @@ pub(crate) fn after_reply(s: State, r: Reply) -> State
 
 // Another number of bytes is lent from now on.
 pub(crate) fn with_lent(s: State, lent: usize) -> State
-    ensures { λ r. ⌜ r ≡ record { traced = s .traced; begun = s .begun; lent = lent; held = 0; telling = false; room = 0; next = 0; records = 0 } ⌝ }
+    ensures { λ r. ⌜ r ≡ record { traced = s .traced; begun = s .begun; lent = lent; held = 0; printing = false; room = 0; next = 0; records = 0 } ⌝ }
 {
     State {
         traced: s.traced,
         begun: s.begun,
         lent: lent,
         held: 0,
-        telling: false,
+        printing: false,
         room: 0,
         next: 0,
         records: 0,
     }
 }
 
-// Record `next` comes next, or nothing is told any more.
-pub(crate) fn told_to(s: State, telling: bool, next: usize) -> State
-    ensures { λ r. ⌜ r ≡ record { traced = s .traced; begun = s .begun; lent = s .lent; held = s .held; telling = telling; room = s .room; next = next; records = s .records } ⌝ }
+// Record `next` comes next, or nothing is printed any more.
+pub(crate) fn printed_to(s: State, printing: bool, next: usize) -> State
+    ensures { λ r. ⌜ r ≡ record { traced = s .traced; begun = s .begun; lent = s .lent; held = s .held; printing = printing; room = s .room; next = next; records = s .records } ⌝ }
 {
     State {
         traced: s.traced,
         begun: s.begun,
         lent: s.lent,
         held: s.held,
-        telling: telling,
+        printing: printing,
         room: s.room,
         next: next,
         records: s.records,

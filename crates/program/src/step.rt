@@ -1,4 +1,4 @@
-// The steps of a program: a part of a chunk of the input is taken in, a piece of an answer is told, the input ends. Each writes one piece of the output to
+// The steps of a program: a part of a chunk of the input is taken in, a piece of an answer is printed, the input ends. Each writes one piece of the output to
 // the front of a buffer, and says how long it is.
 use crate::line;
 use crate::line::Said;
@@ -23,7 +23,7 @@ ghost use lib.ListN.{length, take};
 ghost use Rattle.console.specs.Command.{outboxMax};
 ghost use Rattle.engine.specs.Arrays.{engine};
 ghost use Rattle.program.specs.Program.{stain};
-ghost use Rattle.program.specs.Steps.{pieceMax, usedBy, Replies, Ready, Takes, Finishes, Tells};
+ghost use Rattle.program.specs.Steps.{pieceMax, usedBy, Replies, Ready, Takes, Finishes, PrintsPiece};
 
 // The state after a step, how many bytes of the chunk are used up, and how many bytes of the buffer are printed.
 pub struct Step {
@@ -191,23 +191,23 @@ fn say_stain(out: &mut [u8], lent: &[u8], n: usize) -> usize
     buffer::append(out, 0, b"!\n")
 }
 
-// Tells the next piece of what is due of an answer: a record, or behind the last whether a call wrote what it should not.
-pub fn tell(s: State, outbox: &[u8], out: &mut [u8]) -> Step
-    ensures { λ r. ⌜ (s .telling ≡ true → pieceMax ≤ length (now (out .entry)) → Tells s (now (outbox .entry)) (r .state) (take (r .len) (now (out .exit)))) ⌝ }
+// PrintsPiece the next piece of what is due of an answer: a record, or behind the last whether a call wrote what it should not.
+pub fn print_due(s: State, outbox: &[u8], out: &mut [u8]) -> Step
+    ensures { λ r. ⌜ (s .printing ≡ true → pieceMax ≤ length (now (out .entry)) → PrintsPiece s (now (outbox .entry)) (r .state) (take (r .len) (now (out .exit)))) ⌝ }
 {
     if out.len() < PIECE_MAX {
         return idle(s);
     }
     let lent = part::front(outbox, s.room);
     if s.records <= s.next {
-        let next = state::told_to(s, false, s.next);
+        let next = state::printed_to(s, false, s.next);
         return Step {
             state: next,
             used: 0,
             len: say_stain(out, lent, s.records),
         };
     }
-    let next = state::told_to(s, true, s.next + 1);
+    let next = state::printed_to(s, true, s.next + 1);
     Step {
         state: next,
         used: 0,

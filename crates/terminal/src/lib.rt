@@ -27,14 +27,14 @@ fn write(out: &[u8], len: usize) {
     io::write_all(1, part::front(out, len));
 }
 
-// Writes what is still to be told of an answer.
-fn tell(s: State, outbox: &[u8], out: &mut [u8]) -> State
+// Writes what is still to be printed of an answer.
+fn print_due(s: State, outbox: &[u8], out: &mut [u8]) -> State
     requires { ⌜ pieceMax ≤ length (now out) ⌝ }
-    ensures { λ r. ⌜ (r .held ≡ s .held) × (r .telling ≡ false) × ((e : Engine) (line rest : List ℕ) → Hands s e line (now (outbox .entry)) rest r e line (now (outbox .entry)) rest) ⌝ }
+    ensures { λ r. ⌜ (r .held ≡ s .held) × (r .printing ≡ false) × ((e : Engine) (line rest : List ℕ) → Hands s e line (now (outbox .entry)) rest r e line (now (outbox .entry)) rest) ⌝ }
 {
     let mut state = s;
-    while state.telling {
-        let step = step::tell(state, outbox, out);
+    while state.printing {
+        let step = step::print_due(state, outbox, out);
         write(out, step.len);
         let next = step.state;
         state = next;
@@ -75,7 +75,7 @@ fn on_chunk(
         );
         write(out, step.len);
         let taken = step.state;
-        let next = tell(taken, outbox, out);
+        let next = print_due(taken, outbox, out);
         state = next;
         at += step.used;
     }
@@ -141,7 +141,7 @@ fn on_end(
     let step = step::finish(s, head, links, searches, numbers, texts, line, outbox, out);
     write(out, step.len);
     let last = step.state;
-    tell(last, outbox, out);
+    print_due(last, outbox, out);
 }
 
 // The arrays of an engine that has not begun: any content would do.

@@ -1,4 +1,4 @@
--- `on_chunk` hands on the whole chunk: each step takes in a part of it, and then tells what is due.
+-- `on_chunk` hands on the whole chunk: each step takes in a part of it, and then prints what is due.
 use Prim.Native.Nat.{_-_, _≤_}
 use Rattle.engine.specs.Arrays.{engine}
 use Rattle.program.proofs.Handing as laws
@@ -30,8 +30,8 @@ take-in-requires c κs = search needs
 write-requires : tie.Need-write-requires Inv-loop μ-loop
 write-requires c κs = search needs
 
-tell-requires : tie.Need-tell-requires Inv-loop μ-loop
-tell-requires c κs = omega (arith, c .before .before .before .before .before .before .before .before .before .before .before .take-in .kept .1 .1 .1 .1 .1 .1 .1 .1 .1 .0, c .before .before .before .before .before .before .before .before .before .before .before .before .before .before .before .before .before .before .before .before .before .before .loop .inv .0 .room)
+print-due-requires : tie.Need-print-due-requires Inv-loop μ-loop
+print-due-requires c κs = omega (arith, c .before .before .before .before .before .before .before .before .before .before .before .take-in .kept .1 .1 .1 .1 .1 .1 .1 .1 .1 .0, c .before .before .before .before .before .before .before .before .before .before .before .before .before .before .before .before .before .before .before .before .before .before .loop .inv .0 .room)
 
 add-at : tie.Need-add-at Inv-loop μ-loop
 add-at c =
@@ -46,8 +46,8 @@ loop-again : tie.Need-loop-again Inv-loop μ-loop
 loop-again c =
     let i = c .before .before .before .before .before .before .before .before .before .before .before .before .before .before .before .before .before .before .before .before .before .before .before .before .before .before .loop .inv in
     let t = c .before .before .before .before .before .before .before .before .before .before .before .before .before .before .before .take-in in
-    let u = c .before .before .before .tell in (
-      laws.ready-told (t .result .state) _ (c .before .before .before .before .before .before .before .before .before .before .before .before .before .before .before .before .before .before .before .before .before .before .before .before .before .before .loop .outbox) (c .before .before .before .before .before .before .before .before .before .before .before .before .before .before .before .before .before .before .before .before .before .before .before .before .before .before .loop .out) (t .ensures (i .0) .under) (u .ensures .0) (u .ensures .1) (i .0 .lent) (t .kept .1 .1 .1 .1 .1 .1 .1 .1 .0) (i .0 .room) (u .kept .1 .1 .0 ∙ t .kept .1 .1 .1 .1 .1 .1 .1 .1 .1 .0),
+    let u = c .before .before .before .print-due in (
+      laws.ready-printed (t .result .state) _ (c .before .before .before .before .before .before .before .before .before .before .before .before .before .before .before .before .before .before .before .before .before .before .before .before .before .before .loop .outbox) (c .before .before .before .before .before .before .before .before .before .before .before .before .before .before .before .before .before .before .before .before .before .before .before .before .before .before .loop .out) (t .ensures (i .0) .under) (u .ensures .0) (u .ensures .1) (i .0 .lent) (t .kept .1 .1 .1 .1 .1 .1 .1 .1 .0) (i .0 .room) (u .kept .1 .1 .0 ∙ t .kept .1 .1 .1 .1 .1 .1 .1 .1 .1 .0),
       laws._⨟_ (i .1) (laws.further (c .before .before .before .before .before .before .before .before .before .before .before .before .before .before .before .before .before .before .before .before .before .before .before .before .before .before .before .before .before .before .before .args .chunk .now) (c .before .before .before .before .before .before .before .before .before .before .before .before .before .before .before .before .before .before .before .before .before .before .before .before .before .before .loop .at) (t .result .used) (c .before .before .before .before .before .before .before .before .before .before .before .before .before .before .before .before .before .before .tail .ensures) (laws.from-part (c .before .before .before .before .before .before .before .before .before .before .before .before .before .before .before .before .before .before .tail .ensures) (laws._⨟_ (laws.took (t .ensures (i .0))) (u .ensures .2 _ _ _)))),
       laws.used-most (c .before .before .before .before .before .before .before .before .before .before .before .before .before .before .before .before .before .before .before .before .before .before .before .before .before .before .before .before .before .before .before .args .chunk .now) (c .before .before .before .before .before .before .before .before .before .before .before .before .before .before .before .before .before .before .before .before .before .before .before .before .before .before .loop .at) (c .before .before .before .before .before .before .before .before .before .before .before .before .before .before .before .before .before .before .tail .ensures) (c .before .before .before .before .before .before .before .before .before .before .before .before .before .before .before .before .before .before .before .before .before .before .before .before .before .before .loop .inv .2) (c .before .before .before .before .before .before .before .before .before .before .before .before .before .before .before .take-in .ensures (c .before .before .before .before .before .before .before .before .before .before .before .before .before .before .before .before .before .before .before .before .before .before .before .before .before .before .loop .inv .0) .most),
       t .kept .1 .1 .1 .1 .1 .1 .0 ∙ i .3,
@@ -69,4 +69,4 @@ returns c = (c .before .loop .inv .0, laws.used-up (c .before .before .before .b
 
 pub on-chunk-spec : {M : Type 1} → statement M
 on-chunk-spec =
-    tie.close (tie.spec Inv-loop μ-loop loop-holds tail-requires take-in-requires write-requires tell-requires add-at loop-less loop-again same-length same-length-2 same-length-3 returns)
+    tie.close (tie.spec Inv-loop μ-loop loop-holds tail-requires take-in-requires write-requires print-due-requires add-at loop-less loop-again same-length same-length-2 same-length-3 returns)

@@ -10,8 +10,8 @@ finish-requires c κs = search needs
 write-requires : tie.Need-write-requires
 write-requires c κs = search needs
 
-tell-requires : tie.Need-tell-requires
-tell-requires c κs = omega (arith, c .before .before .before .before .before .before .before .before .before .finish .kept .1 .1 .1 .1 .1 .1 .1 .1 .0, c .before .before .before .before .before .before .before .before .before .before .before .before .before .before .before .before .before .before .before .before .pre .room)
+print-due-requires : tie.Need-print-due-requires
+print-due-requires c κs = omega (arith, c .before .before .before .before .before .before .before .before .before .finish .kept .1 .1 .1 .1 .1 .1 .1 .1 .0, c .before .before .before .before .before .before .before .before .before .before .before .before .before .before .before .before .before .before .before .before .pre .room)
 
 same-length : tie.Need-same-length
 same-length c = search needs
@@ -24,4 +24,4 @@ returns c = search needs
 
 pub on-end-spec : {M : Type 1} → statement M
 on-end-spec =
-    tie.close (tie.spec finish-requires write-requires tell-requires same-length same-length-2 returns)
+    tie.close (tie.spec finish-requires write-requires print-due-requires same-length same-length-2 returns)

@@ -1,5 +1,5 @@
 -- `say` meets its contract: there is room for the text.
-use Rattle.program.proofs.Telling.{written-whole}
+use Rattle.program.proofs.PrintsDue.{written-whole}
 use borrow.Author.Needs.{needs}
 use Rattle.program.proofs.line.say.Statement.{statement}
 use Rattle.program.proofs.line.say.Tie as tie

@@ -2,7 +2,7 @@
 use Rattle.console.proofs.Appending as laws
 use Rattle.dialogue.specs.Printing.{answerLine, newsLine}
 use Rattle.program.proofs.Replying.{reply-none, reply-answer, reply-news}
-use Rattle.program.proofs.Telling.{written-whole}
+use Rattle.program.proofs.PrintsDue.{written-whole}
 use Rattle.text.specs.Bytes.{bytes}
 use borrow.Author.Needs.{needs}
 use borrow.Author.Tests.{not-true, not-false}

@@ -44,7 +44,7 @@ returns-2 : tie.Need-returns-2
 returns-2 c =
     λ ready.
     let a = c .before .before .before .before .before .before .before .before .before .before .before .before .before .before .before .before .before .before .before .before .before .args in
-    finishes (a .s) (ready .under) (ready .told) (c .before .before .before .before .before .before .before .before .before .before .before .before .before .finish .ensures (take (a .s .held) (a .line .now)) (ready .under)) (c .before .before .before .before .before .on-event .ensures)
+    finishes (a .s) (ready .under) (ready .printed) (c .before .before .before .before .before .before .before .before .before .before .before .before .before .finish .ensures (take (a .s .held) (a .line .now)) (ready .under)) (c .before .before .before .before .before .on-event .ensures)
 
 pub finish-spec : {M : Type 1} → statement M
 finish-spec =

@@ -1,5 +1,5 @@
 -- `say_stain` meets its contract: nothing, or `!`.
-use Rattle.program.proofs.Telling.{written-whole, stain-none, stain-some}
+use Rattle.program.proofs.PrintsDue.{written-whole, stain-none, stain-some}
 use Rattle.text.specs.Bytes.{bytes}
 use borrow.Author.Needs.{needs}
 use mathlib.Core.Path.{_∙_}

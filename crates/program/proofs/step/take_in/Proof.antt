@@ -47,7 +47,7 @@ same-length-5 : tie.Need-same-length-5
 same-length-5 c = search needs
 
 returns-2 : tie.Need-returns-2
-returns-2 c = λ ready. takes (c .before .before .before .before .before .before .before .before .before .before .before .before .before .before .before .before .before .before .before .before .before .before .before .before .before .before .before .args .s) (ready .under) (ready .told) (c .before .before .before .before .before .before .before .before .before .before .before .before .before .before .before .before .before .gather .ensures) (c .before .before .before .before .before .before .on-event .ensures) (c .used-by .ensures)
+returns-2 c = λ ready. takes (c .before .before .before .before .before .before .before .before .before .before .before .before .before .before .before .before .before .before .before .before .before .before .before .before .before .before .before .args .s) (ready .under) (ready .printed) (c .before .before .before .before .before .before .before .before .before .before .before .before .before .before .before .before .before .gather .ensures) (c .before .before .before .before .before .before .on-event .ensures) (c .used-by .ensures)
 
 pub take-in-spec : {M : Type 1} → statement M
 take-in-spec =

@@ -1,4 +1,4 @@
--- Laws of telling an answer piece by piece.
+-- Laws of printing an answer piece by piece.
 use mathlib.Core.Path.{_≡_, refl, sym, _∙_, ap, subst}
 use mathlib.Core.Bool.{Bool, true, false, cond}
 use mathlib.Core.List.{List, [], _++_, append-assoc, append-nil}
@@ -16,7 +16,7 @@ use Rattle.engine.specs.Arrays.{Engine}
 use Rattle.dialogue.specs.Printing.{recordLine}
 use Rattle.dialogue.specs.Outbox.{recordAt, clean}
 use Rattle.program.specs.Program.{recordLines, stain, printed}
-use Rattle.program.specs.Steps.{pieceMax, due, sessionIn, toPrint, Tells}
+use Rattle.program.specs.Steps.{pieceMax, due, sessionIn, toPrint, PrintsPiece}
 use Rattle.program.specs.declared.state.State.{State}
 
 -- a text that was appended to nothing, with room for it
@@ -43,14 +43,14 @@ pub stain-some : {b : Bool} (n : ℕ) (outbox : List ℕ) → b ≡ clean n outb
 unfolding stain
 stain-some n outbox p q = rw (sym p ∙ q)
 
--- the state with the next piece told
-abbrev pub toldTo : State → Bool → ℕ → State
-toldTo s telling next = record {
+-- the state with the next piece printed
+abbrev pub printedTo : State → Bool → ℕ → State
+printedTo s printing next = record {
   traced = s .traced;
   begun = s .begun;
   lent = s .lent;
   held = s .held;
-  telling = telling;
+  printing = printing;
   room = s .room;
   next = next;
   records = s .records;
@@ -66,7 +66,7 @@ lines-none : (n k : ℕ) (outbox : List ℕ) → n ≤ k → recordLines (n - k)
 unfolding recordLines
 lines-none n k outbox h = let m : n - k ≡ 0 = omega arith in ap (λ (x : ℕ). recordLines x k outbox) m
 
-due-record : (s : State) (outbox : List ℕ) → s .telling ≡ true → s .next < s .records → due s outbox ≡ recordLine (recordAt (s .next) (take (s .room) outbox)) ++ due (toldTo s true (s .next + 1)) outbox
+due-record : (s : State) (outbox : List ℕ) → s .printing ≡ true → s .next < s .records → due s outbox ≡ recordLine (recordAt (s .next) (take (s .room) outbox)) ++ due (printedTo s true (s .next + 1)) outbox
 unfolding due
 due-record s outbox t h =
     let o = take (s .room) outbox in
@@ -74,27 +74,27 @@ due-record s outbox t h =
     (ap (λ (l : List ℕ). l ++ stain (s .records) o) (lines-more (s .records) (s .next) o h)
     ∙ append-assoc (recordLine (recordAt (s .next) o)) (recordLines (s .records - (s .next + 1)) (s .next + 1) o) (stain (s .records) o))
 
-due-last : (s : State) (outbox : List ℕ) → s .telling ≡ true → s .records ≤ s .next → due s outbox ≡ stain (s .records) (take (s .room) outbox) ++ due (toldTo s false (s .next)) outbox
+due-last : (s : State) (outbox : List ℕ) → s .printing ≡ true → s .records ≤ s .next → due s outbox ≡ stain (s .records) (take (s .room) outbox) ++ due (printedTo s false (s .next)) outbox
 unfolding due
 due-last s outbox t h =
     let o = take (s .room) outbox in
     rw t (ap (λ (l : List ℕ). l ++ stain (s .records) o) (lines-none (s .records) (s .next) o h) ∙ sym (append-nil (stain (s .records) o)))
 
-prints : (s : State) (outbox : List ℕ) (t : Bool) (n : ℕ) {text piece : List ℕ} → due s outbox ≡ piece ++ due (toldTo s t n) outbox → text ≡ piece
-    → (e : Engine) (line later : List ℕ) → toPrint s e line outbox later ≡ text ++ toPrint (toldTo s t n) e line outbox later
+prints : (s : State) (outbox : List ℕ) (t : Bool) (n : ℕ) {text piece : List ℕ} → due s outbox ≡ piece ++ due (printedTo s t n) outbox → text ≡ piece
+    → (e : Engine) (line later : List ℕ) → toPrint s e line outbox later ≡ text ++ toPrint (printedTo s t n) e line outbox later
 unfolding toPrint
 prints s outbox t n {text} {piece} d p e line later =
     let rest = printed (s .traced) (sessionIn s e) (input (take (s .held) line ++ later)) in
-    ap (λ (l : List ℕ). l ++ rest) (d ∙ ap (λ (l : List ℕ). l ++ due (toldTo s t n) outbox) (sym p)) ∙ append-assoc text (due (toldTo s t n) outbox) rest
+    ap (λ (l : List ℕ). l ++ rest) (d ∙ ap (λ (l : List ℕ). l ++ due (printedTo s t n) outbox) (sym p)) ∙ append-assoc text (due (printedTo s t n) outbox) rest
 
-pub tells-record : (s : State) (outbox : List ℕ) {s′ : State} {text : List ℕ} → s .telling ≡ true → s .next < s .records → s′ ≡ toldTo s true (s .next + 1)
-    → text ≡ recordLine (recordAt (s .next) (take (s .room) outbox)) → Tells s outbox s′ text
-tells-record s outbox {s′} {text} t h p q =
-    subst (λ (x : State). Tells s outbox x text) (sym p)
+pub prints-record : (s : State) (outbox : List ℕ) {s′ : State} {text : List ℕ} → s .printing ≡ true → s .next < s .records → s′ ≡ printedTo s true (s .next + 1)
+    → text ≡ recordLine (recordAt (s .next) (take (s .room) outbox)) → PrintsPiece s outbox s′ text
+prints-record s outbox {s′} {text} t h p q =
+    subst (λ (x : State). PrintsPiece s outbox x text) (sym p)
     (record { held = refl; fewer = rw t (omega arith); prints = prints s outbox true (s .next + 1) (due-record s outbox t h) q })
 
-pub tells-last : (s : State) (outbox : List ℕ) {s′ : State} {text : List ℕ} → s .telling ≡ true → s .records ≤ s .next → s′ ≡ toldTo s false (s .next)
-    → text ≡ stain (s .records) (take (s .room) outbox) → Tells s outbox s′ text
-tells-last s outbox {s′} {text} t h p q =
-    subst (λ (x : State). Tells s outbox x text) (sym p)
+pub prints-last : (s : State) (outbox : List ℕ) {s′ : State} {text : List ℕ} → s .printing ≡ true → s .records ≤ s .next → s′ ≡ printedTo s false (s .next)
+    → text ≡ stain (s .records) (take (s .room) outbox) → PrintsPiece s outbox s′ text
+prints-last s outbox {s′} {text} t h p q =
+    subst (λ (x : State). PrintsPiece s outbox x text) (sym p)
     (record { held = refl; fewer = rw t (omega arith); prints = prints s outbox false (s .next) (due-last s outbox t h) q })

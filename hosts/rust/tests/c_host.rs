@@ -1,23 +1,9 @@
 //! Programs in C, linked with the library: document 01's example prints its answers, and every call takes less than 4 KB of stack.
-use std::process::Command;
-
-/// What a program of hosts/c prints.
-fn printed(name: &str) -> String {
-    let hosts = concat!(env!("CARGO_MANIFEST_DIR"), "/..");
-    let program = format!("{}/c-{name}", env!("CARGO_TARGET_TMPDIR"));
-    let library = concat!(env!("KOHLSILK_FOLDER"), "/libhost.a");
-    let source = format!("{hosts}/c/{name}.c");
-    let include = format!("{hosts}/../include");
-    let options = ["-std=c11", "-O2", "-Wall", "-Wextra", "-Wpedantic", "-Werror", "-Wl,-z,now", "-I"];
-    assert!(Command::new("cc").args(options).args([&include, &source, library, "-o", &program]).status().unwrap().success());
-    let output = Command::new(program).output().unwrap();
-    assert!(output.status.success(), "{}", String::from_utf8_lossy(&output.stderr));
-    String::from_utf8(output.stdout).unwrap()
-}
+mod c;
 
 #[test]
 fn the_example_in_c() {
-    let printed = printed("example");
+    let printed = c::printed("example", &["c/example.c"], &[]);
     let answers: Vec<&str> = printed.lines().take(7).collect();
     let expected = [
         "0 0 0 0 0 0 0 0 0",
@@ -35,7 +21,7 @@ fn the_example_in_c() {
 /// With full tables, on a stack of its own.
 #[test]
 fn every_call_takes_little_stack() {
-    let printed = printed("stack");
+    let printed = c::printed("stack", &["c/stack.c"], &[]);
     let calls: Vec<(&str, usize)> =
         printed.lines().filter_map(|line| line.split_once('\t')).map(|(call, bytes)| (call, bytes.parse().unwrap())).collect();
     assert_eq!(calls.len(), 14);

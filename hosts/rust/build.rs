@@ -1,8 +1,11 @@
 //! Build script: finds libhost.a, which `rt staticlib host` writes to target/staticlib of the repository. `KOHLSILK_LIB`
 //! names another folder.
+use std::fs::{File, OpenOptions};
+use std::io::Write;
 use std::path::{Path, PathBuf};
-use std::process::Command;
-use std::time::SystemTime;
+use std::process::{Child, Command, ExitStatus};
+use std::thread::sleep;
+use std::time::{Duration, Instant, SystemTime};
 
 fn main() {
     println!("cargo:rerun-if-env-changed=KOHLSILK_LIB");
@@ -18,7 +21,7 @@ fn main() {
     println!("cargo:rerun-if-changed={}", library.display());
     println!("cargo:rustc-link-search=native={}", folder.display());
     println!("cargo:rustc-link-lib=static=host");
-    // For the test that links a program in C.
+    // For the tests that link programs in C.
     println!("cargo:rustc-env=KOHLSILK_FOLDER={}", folder.display());
 }
 
@@ -35,17 +38,51 @@ fn built_here() -> PathBuf {
     }
     let newest = crates.iter().filter_map(|path| changed(path)).max();
     if changed(&folder.join("libhost.a")) < newest {
-        match Command::new("rt").args(["staticlib", "host"]).current_dir(&root).output() {
-            Ok(said) if said.status.success() => {}
-            // What rt has to say goes to stderr: cargo reads this script's stdout.
-            Ok(said) => {
-                eprintln!("{}{}", String::from_utf8_lossy(&said.stdout), String::from_utf8_lossy(&said.stderr));
-                std::process::exit(1);
-            }
-            Err(error) => println!("cargo:warning=rt cannot be run ({error}): libhost.a is taken as it is"),
-        }
+        build_library(&root);
     }
     folder
+}
+
+/// Runs `rt staticlib host`. What it prints is shown where it fails, on stderr: cargo reads this script's stdout.
+fn build_library(root: &Path) {
+    let log = Path::new(&std::env::var("OUT_DIR").unwrap()).join("rt.log");
+    let file = File::create(&log).unwrap();
+    let mut rt = Command::new("rt");
+    rt.args(["staticlib", "host"]).current_dir(root).stdout(file.try_clone().unwrap()).stderr(file);
+    let ended = match rt.spawn() {
+        Ok(child) => wait_aloud(child),
+        Err(error) => return println!("cargo:warning=rt cannot be run ({error}): libhost.a is taken as it is"),
+    };
+    if !ended.success() {
+        eprintln!("{}", String::from_utf8_lossy(&std::fs::read(log).unwrap()));
+        std::process::exit(1);
+    }
+}
+
+/// Waits for `rt`, which proves for minutes, and says every half minute that it still does.
+fn wait_aloud(mut child: Child) -> ExitStatus {
+    let begun = Instant::now();
+    let mut said = 0;
+    tell("kohlsilk: `rt staticlib host` proves the engine and writes libhost.a, which takes minutes");
+    loop {
+        if let Some(status) = child.try_wait().unwrap() {
+            println!("cargo:warning=`rt staticlib host` took {} s", begun.elapsed().as_secs());
+            return status;
+        }
+        if begun.elapsed().as_secs() >= said + 30 {
+            said += 30;
+            tell(&format!("kohlsilk: `rt staticlib host` is at work, {said} s so far"));
+        }
+        sleep(Duration::from_millis(200));
+    }
+}
+
+/// Writes a line to the terminal, if there is one: what a build script prints cargo keeps to itself until the script has ended.
+fn tell(line: &str) {
+    if let Ok(mut terminal) = OpenOptions::new().write(true).open("/dev/tty") {
+        // From the start of the line, over cargo's bar.
+        let _ = write!(terminal, "\r{line:<100}\r\n");
+    }
 }
 
 /// When a file, or the latest of a folder's files, was changed last.

@@ -108,3 +108,22 @@ fn the_example_is_built_with_pkg_config_alone() {
     assert_eq!(shared.lines().take(7).collect::<Vec<_>>(), session.lines().take(7).collect::<Vec<_>>());
     assert_eq!(shared, c::printed("example-archive", &["c/example.c"], &[]));
 }
+
+/// The version of systemd-analyze, or 0 where it is not at hand.
+fn systemd() -> u32 {
+    let said = Command::new("systemd-analyze").arg("--version").output().map(|output| output.stdout).unwrap_or_default();
+    String::from_utf8_lossy(&said).split_ascii_whitespace().nth(1).and_then(|number| number.parse().ok()).unwrap_or(0)
+}
+
+/// systemd takes every line of the unit, and grades its exposure under 2 of 10.
+#[test]
+fn the_unit_is_verified() {
+    if systemd() < 250 {
+        return eprintln!("systemd-analyze 250 or newer is not at hand: the unit is not verified");
+    }
+    let unit = std::fs::read_to_string(format!("{}/usr/lib/systemd/system/kohlsilkd.service", installed())).unwrap();
+    let here = concat!(env!("CARGO_TARGET_TMPDIR"), "/kohlsilkd.service");
+    std::fs::write(here, unit.replace("/usr/bin/", &format!("{}/usr/bin/", installed()))).unwrap();
+    done(Command::new("systemd-analyze").args(["verify", "--man=no", "--recursive-errors=no", here]));
+    done(Command::new("systemd-analyze").args(["security", "--offline=yes", "--threshold=20", here]));
+}

@@ -2,7 +2,7 @@
 //! refused by none but its own numbers. hosts/fuzz/run feeds the same driver by libFuzzer.
 mod c;
 
-/// How many lists: some 300,000 calls, in a few seconds.
+/// How many lists: some 340,000 calls, in a few seconds.
 const LISTS: &str = "3000";
 
 #[test]

@@ -20,7 +20,7 @@ fn every_option_stands_in_the_manual_page() {
     assert!(help.len() > 10, "{help:?}");
     assert_eq!(options(page, "Fl -"), help, "left: the page; right: --help");
     // Each is described, not only named.
-    assert_eq!(options(page, ".It Fl -").union(&["help".into()].into()).cloned().collect::<BTreeSet<_>>(), help);
+    assert_eq!(options(page, ".It Fl -"), help, "left: what the page describes; right: --help");
 }
 
 #[test]

@@ -4,7 +4,7 @@
 //! Each declared function is proved to come back from any engine value, any numbers and any bytes, to read and write
 //! nothing but what it is lent, and to keep nothing of it.
 
-use crate::sizes::{HEAD_PLACES, LINKS, LINK_WIDTH, NAMES, NUMBERS_WIDTH, SEARCH_WIDTH, SUBSCRIPTIONS, TEXTS_WIDTH};
+use crate::sizes::{HEAD_PLACES, LINKS, LINK_WIDTH, NAMES, NAME_COUNT, NUMBERS_WIDTH, SEARCH_WIDTH, SUBSCRIPTIONS, TEXTS_WIDTH};
 
 type Head = [u64; HEAD_PLACES];
 type Links = [u64; LINK_WIDTH * LINKS];
@@ -32,6 +32,12 @@ impl EngineArrays {
         numbers: [0; NUMBERS_WIDTH * NAMES],
         texts: [0; TEXTS_WIDTH * NAMES],
     };
+
+    /// The rows of the names that are held: the numbers and the texts of each. A count above the table means the whole table.
+    pub fn name_rows(&self) -> impl Iterator<Item = (&[u64], &[u8])> {
+        let count = self.head[NAME_COUNT].min(NAMES as u64) as usize;
+        self.numbers.chunks_exact(NUMBERS_WIDTH).zip(self.texts.chunks_exact(TEXTS_WIDTH)).take(count)
+    }
 }
 
 #[repr(C)]
@@ -394,6 +400,8 @@ mod tests {
                     numbers[..5].copy_from_slice(&[NAME_SIZE as u64, 3, 7, 5, (roll() % 3).into()]);
                 }
             }
+            let names: Vec<_> = e.name_rows().map(|(numbers, texts)| crate::Name::read(numbers, texts)).collect();
+            assert!(names.len() <= NAMES && names.iter().all(|name| name.location.len() <= LOCATION_SIZE));
             let (outbox, behind) = bytes.split_at_mut(OUTBOX_SIZE);
             let index = e.links[0] as u32;
             let (mut name, mut address) = ([0; NAME_SIZE], [0; 4]);

@@ -1,6 +1,7 @@
 //! The engine and its calls.
 use crate::abi::{self, EngineArrays, RawAnswer};
 use crate::answer::Answer;
+use crate::name::Name;
 use crate::refusal::Refusal;
 use core::fmt;
 use core::net::{Ipv4Addr, SocketAddrV4};
@@ -39,6 +40,11 @@ impl Engine {
     /// The instant at which [`Engine::handle_timeout`] is to be called, as the latest answer has it.
     pub fn poll(&self) -> u64 {
         self.poll
+    }
+
+    /// The names that are advertised, in the engine's order, each with the reply that waits for it. To be read at any time.
+    pub fn names(&self) -> impl Iterator<Item = Name<'_>> {
+        self.arrays.name_rows().map(|(numbers, texts)| Name::read(numbers, texts))
     }
 
     /// A link is there, or has turned up or down (its flags: [`flags`](crate::flags)). For one that is new the host first joins the group on it, and

@@ -36,6 +36,9 @@ pub const OUTBOX_SIZE: usize = RECORD_SIZE * RECORDS;
 /// The places of the head: the timer, and how many of each are held.
 pub(crate) const HEAD_PLACES: usize = 6;
 
+/// Where the head has the number of names.
+pub(crate) const NAME_COUNT: usize = 3;
+
 /// A row of a link: index, up, how many addresses, and the addresses.
 pub(crate) const LINK_WIDTH: usize = 3 + ADDRESSES;
 
@@ -46,4 +49,8 @@ pub(crate) const SEARCH_WIDTH: usize = 1 + TYPE_SIZE;
 pub(crate) const NUMBERS_WIDTH: usize = 9;
 
 /// Its texts: name, type, location, and the type of the waiting answer.
-pub(crate) const TEXTS_WIDTH: usize = NAME_SIZE + TYPE_SIZE + LOCATION_SIZE + TYPE_SIZE;
+pub(crate) const TEXTS_WIDTH: usize = LOCATION_PLACE + LOCATION_SIZE + TYPE_SIZE;
+
+/// Where the type begins in them, and the location.
+pub(crate) const TYPE_PLACE: usize = NAME_SIZE;
+pub(crate) const LOCATION_PLACE: usize = TYPE_PLACE + TYPE_SIZE;

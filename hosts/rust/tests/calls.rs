@@ -1,6 +1,7 @@
 //! The calls as a host makes them: each answers what document 01 says, and each refusal has its number.
 use kohlsilk::{
-    flags, Answer, Engine, Message, Refusal, GROUP, LOCATION_SIZE, NAMES, NAME_SIZE, OUTBOX_SIZE, SUBSCRIPTIONS, TIME_MAX, TYPE_SIZE,
+    flags, Answer, Engine, Message, Name, Refusal, Reply, GROUP, LOCATION_SIZE, NAMES, NAME_SIZE, OUTBOX_SIZE, SUBSCRIPTIONS, TIME_MAX,
+    TYPE_SIZE,
 };
 use std::net::{Ipv4Addr, SocketAddrV4};
 
@@ -56,6 +57,30 @@ fn a_name_that_leaves_says_so_and_drops_its_reply() {
     assert_eq!((record.destination, record.source), (GROUP, HERE));
     assert_eq!(kohlsilk::parse(record.message), Ok(Message::NotifyByeBye { notification_type: "t", unique_service_name: "u1" }));
     assert_eq!(engine.deadvertise("u1", &mut outbox).unwrap().records, 0);
+}
+
+/// The names as the library holds them: what was advertised, and for whom a reply waits.
+#[test]
+fn names_and_the_replies_that_wait() {
+    let (mut engine, mut outbox) = serving();
+    assert_eq!(engine.names().count(), 0);
+    let longest = ["u".repeat(NAME_SIZE), "k".repeat(TYPE_SIZE), "l".repeat(LOCATION_SIZE)];
+    engine.advertise(&longest[0], &longest[1], &longest[2], &mut outbox).unwrap();
+    engine.advertise("a", "t", "http://caf\u{e9}/", &mut outbox).unwrap();
+    engine.handle_timeout(0, &mut outbox).unwrap();
+    let short = |reply| Name { name: "a", service_type: "t", location: "http://caf\u{e9}/", reply };
+    let long = |reply| Name { name: &longest[0], service_type: &longest[1], location: &longest[2], reply };
+    assert_eq!(engine.names().collect::<Vec<_>>(), [short(None), long(None)]);
+    engine.on_data(100, SEARCHER, HERE, &search("t", "1")).unwrap();
+    let alone = Reply::Searcher { due: 110, searcher: SEARCHER };
+    assert_eq!(engine.names().collect::<Vec<_>>(), [short(Some(alone)), long(None)]);
+    let other = SocketAddrV4::new(*SEARCHER.ip(), 5001);
+    engine.on_data(105, other, HERE, &search("ssdp:all", "1")).unwrap();
+    let second = Reply::Searcher { due: 115, searcher: other };
+    assert_eq!(engine.names().collect::<Vec<_>>(), [short(Some(Reply::Group { due: 110 })), long(Some(second))]);
+    engine.handle_timeout(115, &mut outbox).unwrap();
+    engine.deadvertise("a", &mut outbox).unwrap();
+    assert_eq!(engine.names().collect::<Vec<_>>(), [long(None)]);
 }
 
 #[test]

@@ -1,18 +1,21 @@
 //! What others announce, as it was heard last: so that a device is printed when it is new, has changed or leaves, and not at each notice.
 use kohlsilk::Message;
 use std::collections::BTreeMap;
+use std::hash::{BuildHasher, RandomState};
 
 /// As many places are remembered; of more, those heard longest ago are forgotten, and printed again when they are heard.
 const REMEMBERED: usize = 1000;
 
-/// A type, a name and a location. A device that is there on two networks, or has two addresses, has a location for each.
-type Place = (String, String, String);
+/// A type with a name, and a location, each by its hash, since a stranger's texts may be long. A device that is there on two networks, or has two
+/// addresses, has a location for each.
+type Place = (u64, u64);
 
 #[derive(Default)]
 pub struct Found {
     /// With the number of the notice that told of it last.
     places: BTreeMap<Place, u64>,
     notices: u64,
+    hashes: RandomState,
 }
 
 impl Found {
@@ -22,7 +25,7 @@ impl Found {
         match *message {
             Message::NotifyAlive { notification_type: kind, unique_service_name: name, location }
             | Message::Response { search_target: kind, unique_service_name: name, location } => {
-                self.is_new((kind.into(), name.into(), location.into()))
+                self.is_new((self.hashes.hash_one((kind, name)), self.hashes.hash_one(location)))
             }
             Message::NotifyByeBye { notification_type, unique_service_name } => self.was_there(notification_type, unique_service_name),
             Message::Search { .. } => false,
@@ -32,7 +35,7 @@ impl Found {
     fn is_new(&mut self, place: Place) -> bool {
         let is_new = self.places.insert(place, self.notices).is_none();
         if self.places.len() > REMEMBERED {
-            let oldest = self.places.iter().min_by_key(|(_, notice)| **notice).map(|(place, _)| place.clone());
+            let oldest = self.places.iter().min_by_key(|(_, notice)| **notice).map(|(place, _)| *place);
             oldest.map(|place| self.places.remove(&place));
         }
         is_new
@@ -40,8 +43,8 @@ impl Found {
 
     /// Forgets a name in all its places, and says whether it was known.
     fn was_there(&mut self, kind: &str, name: &str) -> bool {
-        let before = self.places.len();
-        self.places.retain(|(held_kind, held_name, _), _| (held_kind.as_str(), held_name.as_str()) != (kind, name));
+        let (before, gone) = (self.places.len(), self.hashes.hash_one((kind, name)));
+        self.places.retain(|(held, _), _| *held != gone);
         self.places.len() < before
     }
 }

@@ -66,16 +66,24 @@ impl fmt::Display for Text<'_> {
     }
 }
 
+/// The characters that are printed of a text that a stranger has sent, at most: lines that nobody reads yet take memory.
+const LONGEST: usize = 500;
+
+/// A stranger's text, cut where it is too long.
+fn short(text: &str) -> String {
+    let end = text.char_indices().nth(LONGEST).map(|(end, _)| end);
+    format!("{}{}", Text(&text.as_bytes()[..end.unwrap_or(text.len())]), if end.is_some() { ".." } else { "" })
+}
+
 /// A notification: what is there or has gone, its type, its name and where its description is.
 pub fn notification(message: &Message) -> Option<String> {
-    let text = |field: &str| Text(field.as_bytes()).to_string();
     match *message {
         Message::NotifyAlive { notification_type: service_type, unique_service_name, location }
         | Message::Response { search_target: service_type, unique_service_name, location } => {
-            Some(format!("there {} {} {}", text(service_type), text(unique_service_name), text(location)))
+            Some(format!("there {} {} {}", short(service_type), short(unique_service_name), short(location)))
         }
         Message::NotifyByeBye { notification_type, unique_service_name } => {
-            Some(format!("gone {} {}", text(notification_type), text(unique_service_name)))
+            Some(format!("gone {} {}", short(notification_type), short(unique_service_name)))
         }
         Message::Search { .. } => None,
     }
@@ -120,6 +128,15 @@ mod tests {
     fn control_characters_are_written_out() {
         assert_eq!(Text("caf\u{e9}\u{1b}[2J\u{9b}".as_bytes()).to_string(), "caf\u{e9}\\u{1b}[2J\\u{9b}");
         assert_eq!(Text(b"a\xff").to_string(), "a\u{fffd}");
+    }
+
+    #[test]
+    fn a_long_text_is_cut() {
+        let long = "\u{e9}".repeat(LONGEST);
+        assert_eq!(short(&long), long);
+        assert_eq!(short(&format!("{long}a")), format!("{long}.."));
+        let gone = Message::NotifyByeBye { notification_type: "t", unique_service_name: &"u".repeat(60_000) };
+        assert_eq!(notification(&gone).unwrap().len(), "gone t ..".len() + LONGEST);
     }
 
     #[test]

@@ -1,4 +1,5 @@
 //! The command line.
+use crate::device;
 use crate::print::{Level, Text};
 use std::ffi::OsString;
 use std::os::unix::ffi::OsStringExt;
@@ -7,13 +8,15 @@ use std::path::{Path, PathBuf};
 pub const USAGE: &str = "\
 kohlsilkd: announces services to the network by SSDP, answers searches for them, and tells what others announce
 
-  --advertise NAME TYPE LOCATION   announce a service: its unique name (USN), its type, and the URL of its description, whose
-                                   host becomes the address that an announcement is sent from (up to 8 times)
+  --device UUID TYPE LOCATION      announce a root device: its UUID, as uuid:4d696e69-444c-164e-9d41-b827eb54e939, its type, and the URL of its
+                                   description, whose host becomes the address that an announcement is sent from. These are three names of the 8
+                                   that are held, since a client searches for upnp:rootdevice, for a UUID or for a type
+  --advertise NAME TYPE LOCATION   announce one name: a unique service name (USN), its type, and the URL of its description (up to 8 times)
   --subscribe TYPE                 search for a type and print what is found; ssdp:all finds everything (up to 4 times)
   --interface NAME                 serve on this link alone, as eth0 (or on each that is named so; 3 links are served at most). Otherwise on those
                                    that have an IPv4 address, ports of bridges and bonds apart: first those that are up
   --config FILE                    read further settings, one a line: an option without its dashes and its words, as
-                                   'advertise NAME TYPE LOCATION'; a line that begins with # says nothing. SIGHUP reads it again: names are
+                                   'device UUID TYPE LOCATION'; a line that begins with # says nothing. SIGHUP reads it again: names are
                                    added and withdrawn, and nothing else is disturbed
   --seconds N                      end after N seconds; otherwise on SIGINT or SIGTERM
   --seed N                         the seed of the delays, instead of a random one
@@ -71,10 +74,13 @@ impl Arguments {
             let option = word.to_string_lossy().into_owned();
             let mut next = |wanted| value(&option, wanted, words.next());
             match option.as_str() {
+                "--device" => {
+                    let three = device::announcements(&next("UUID")?, &next("TYPE")?, &next("LOCATION")?);
+                    self.announce(&option, three.map_err(|wrong| format!("{option}: {wrong}"))?)?;
+                }
                 "--advertise" => {
                     let service = Advertisement { name: next("NAME")?, service_type: next("TYPE")?, location: next("LOCATION")? };
-                    check_location(&option, &service.location)?;
-                    self.advertisements.push(service);
+                    self.announce(&option, [service])?;
                 }
                 "--subscribe" => self.subscriptions.push(next("TYPE")?),
                 "--interface" => self.interfaces.push(String::from_utf8_lossy(&next("NAME")?).into_owned()),
@@ -88,6 +94,18 @@ impl Arguments {
                 "--answer-anyone" => self.answer_anyone = true,
                 _ => return Err(format!("{option} is no option")),
             }
+        }
+        Ok(())
+    }
+
+    /// Takes announcements up. A name that stands twice is an error: the engine holds one of each, and which it is to be nobody could tell.
+    fn announce(&mut self, option: &str, services: impl IntoIterator<Item = Advertisement>) -> Result<(), String> {
+        for service in services {
+            check_location(option, &service.location)?;
+            if self.advertisements.iter().any(|held| held.name == service.name) {
+                return Err(format!("{option}: the name '{}' is announced twice", Text(&service.name)));
+            }
+            self.advertisements.push(service);
         }
         Ok(())
     }
@@ -156,6 +174,22 @@ mod tests {
     }
 
     #[test]
+    fn a_device_has_three_names() {
+        let read = read("--device uuid:1 urn:t:1 http://h/ --advertise u t http://h/").unwrap();
+        let names: Vec<_> = read.advertisements.iter().map(|service| Text(&service.name).to_string()).collect();
+        assert_eq!(names, ["uuid:1::upnp:rootdevice", "uuid:1", "uuid:1::urn:t:1", "u"]);
+    }
+
+    #[test]
+    fn wrong_devices() {
+        assert!(read("--device 1 t http://h/").unwrap_err().starts_with("--device: '1' is no UUID with uuid: in front"));
+        assert!(read("--device uuid:1 t noturl").unwrap_err().starts_with("--device: the location 'noturl' is no URL"));
+        assert_eq!(read("--device uuid:1 t").unwrap_err(), "--device wants LOCATION, and there is no further word");
+        let twice = "--device uuid:1 t http://h/ --advertise uuid:1 t http://h/";
+        assert_eq!(read(twice).unwrap_err(), "--advertise: the name 'uuid:1' is announced twice");
+    }
+
+    #[test]
     fn locations() {
         for good in ["http://h/", "https://h", "HTTP://10.0.0.1:80/d.xml", "http://[::1]/"] {
             assert!(read(&format!("--advertise u t {good}")).is_ok(), "{good}");
@@ -184,9 +218,10 @@ mod tests {
 
     #[test]
     fn a_file_has_the_same_words() {
-        let path = config("# a comment\n\n  advertise u t http://h/\nsubscribe a\n\tttl 2 \nlog-records\n");
+        let path =
+            config("# a comment\n\n  advertise u t http://h/\nsubscribe a\n\tttl 2 \nlog-records\ndevice uuid:1 t http://h/\n");
         let words = read(&format!("--config {}", path.display())).unwrap();
-        let same = read("--advertise u t http://h/ --subscribe a --ttl 2 --log-records").unwrap();
+        let same = read("--advertise u t http://h/ --device uuid:1 t http://h/ --subscribe a --ttl 2 --log-records").unwrap();
         assert_eq!(words, Arguments { config: Some(path.clone()), ..same });
         std::fs::remove_file(path).unwrap();
     }

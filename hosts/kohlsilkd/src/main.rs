@@ -1,6 +1,7 @@
 //! `kohlsilkd`: a host for the engine on Linux. It waits for datagrams, for news of the network, and for the engine's own instants.
 mod arguments;
 mod choose;
+mod device;
 mod found;
 mod host;
 mod limit;

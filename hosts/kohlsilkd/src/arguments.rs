@@ -1,6 +1,7 @@
 //! The command line.
 use crate::device;
 use crate::print::{Level, Text};
+use crate::status::Form;
 use std::ffi::OsString;
 use std::os::unix::ffi::OsStringExt;
 use std::path::{Path, PathBuf};
@@ -25,11 +26,21 @@ kohlsilkd: announces services to the network by SSDP, answers searches for them,
   --quiet                          print what is found, what fails, and the counts alone
   --verbose                        print each refused datagram; otherwise five a minute for each reason, and how many more there were
   --log-records                    print each record that is sent: source, destination, port, and the message in hexadecimal
+  --status                         ask the kohlsilkd that runs on this machine, and print its links, names, refusals and counts
+  --json                           print the status as JSON
+  --socket PATH                    the Unix socket at which the status is asked for and told (/run/kohlsilkd/status)
   --version                        print the version
   -h, --help                       print this
 
 At the end each name is withdrawn, and the counts of each link and of the reply ledger are printed; SIGUSR1 prints them meanwhile.
-Status: 0, or 1 where the system failed or a service or search of the command line was refused, or 2 for a wrong command line.";
+Status: 0, or 1 where the system failed, a service or search of the command line was refused, or no kohlsilkd tells its status, or 2
+for a wrong command line.";
+
+/// Where the status is asked for, if nothing else is said.
+const SOCKET: &str = "/run/kohlsilkd/status";
+
+/// What only the command line may say.
+const NOT_IN_A_FILE: [&[u8]; 3] = [b"config", b"status", b"json"];
 
 #[derive(Clone, Debug, PartialEq, Eq)]
 pub struct Advertisement {
@@ -53,6 +64,10 @@ pub struct Arguments {
     pub answer_anyone: bool,
     /// A file with further settings.
     pub config: Option<PathBuf>,
+    /// The socket at which the status is asked for, where the user has chosen one.
+    pub socket: Option<PathBuf>,
+    status: bool,
+    json: bool,
 }
 
 impl Arguments {
@@ -63,10 +78,22 @@ impl Arguments {
         if let Some(path) = read.config.clone() {
             read.take_file(&path)?;
         }
-        if read.advertisements.is_empty() && read.subscriptions.is_empty() {
+        if read.json && !read.status {
+            return Err("--json goes with --status".into());
+        }
+        if !read.status && read.advertisements.is_empty() && read.subscriptions.is_empty() {
             return Err("nothing to advertise and nothing to subscribe to".into());
         }
         Ok(read)
+    }
+
+    /// The form in which a running kohlsilkd is asked for its status, if that is what is wanted.
+    pub fn asks(&self) -> Option<Form> {
+        self.status.then_some(if self.json { Form::Json } else { Form::Text })
+    }
+
+    pub fn socket_path(&self) -> &Path {
+        self.socket.as_deref().unwrap_or(Path::new(SOCKET))
     }
 
     fn take(&mut self, mut words: impl Iterator<Item = OsString>) -> Result<(), String> {
@@ -92,6 +119,9 @@ impl Arguments {
                 "--quiet" => self.level = Level::Quiet,
                 "--verbose" => self.level = Level::Verbose,
                 "--answer-anyone" => self.answer_anyone = true,
+                "--socket" => self.socket = Some(OsString::from_vec(next("PATH")?).into()),
+                "--status" => self.status = true,
+                "--json" => self.json = true,
                 _ => return Err(format!("{option} is no option")),
             }
         }
@@ -117,8 +147,8 @@ impl Arguments {
             let mut words = line.split(u8::is_ascii_whitespace).filter(|word| !word.is_empty());
             let Some(first) = words.next().filter(|word| !word.starts_with(b"#")) else { continue };
             let wrong = |why| format!("{}, line {}: {why}", path.display(), number + 1);
-            if first == b"config" {
-                return Err(wrong("config is for the command line".into()));
+            if NOT_IN_A_FILE.contains(&first) {
+                return Err(wrong(format!("{} is for the command line", Text(first))));
             }
             let words = std::iter::once([b"--", first].concat()).chain(words.map(<[u8]>::to_vec));
             self.take(words.map(OsString::from_vec)).map_err(wrong)?;
@@ -190,6 +220,15 @@ mod tests {
     }
 
     #[test]
+    fn asking() {
+        let asks = |line: &str| read(line).map(|read| (read.asks(), read.socket_path().to_path_buf()));
+        assert_eq!(asks("--subscribe a"), Ok((None, SOCKET.into())));
+        assert_eq!(asks("--status"), Ok((Some(Form::Text), SOCKET.into())));
+        assert_eq!(asks("--json --socket /s --status"), Ok((Some(Form::Json), "/s".into())));
+        assert_eq!(asks("--subscribe a --json"), Err("--json goes with --status".into()));
+    }
+
+    #[test]
     fn locations() {
         for good in ["http://h/", "https://h", "HTTP://10.0.0.1:80/d.xml", "http://[::1]/"] {
             assert!(read(&format!("--advertise u t {good}")).is_ok(), "{good}");
@@ -219,9 +258,9 @@ mod tests {
     #[test]
     fn a_file_has_the_same_words() {
         let path =
-            config("# a comment\n\n  advertise u t http://h/\nsubscribe a\n\tttl 2 \nlog-records\ndevice uuid:1 t http://h/\n");
+            config("# a comment\n\n  advertise u t http://h/\nsubscribe a\n\tttl 2 \nlog-records\nsocket /s\ndevice uuid:1 t http://h/\n");
         let words = read(&format!("--config {}", path.display())).unwrap();
-        let same = read("--advertise u t http://h/ --device uuid:1 t http://h/ --subscribe a --ttl 2 --log-records").unwrap();
+        let same = read("--advertise u t http://h/ --device uuid:1 t http://h/ --subscribe a --ttl 2 --log-records --socket /s").unwrap();
         assert_eq!(words, Arguments { config: Some(path.clone()), ..same });
         std::fs::remove_file(path).unwrap();
     }
@@ -231,6 +270,8 @@ mod tests {
         let path = config("subscribe a\nadvertise u t\n");
         let wrong = read(&format!("--config {}", path.display())).unwrap_err();
         assert_eq!(wrong, format!("{}, line 2: --advertise wants LOCATION, and there is no further word", path.display()));
+        std::fs::write(&path, "status\n").unwrap();
+        assert!(read(&format!("--config {}", path.display())).unwrap_err().ends_with("line 1: status is for the command line"));
         std::fs::remove_file(&path).unwrap();
         assert!(read(&format!("--config {}", path.display())).unwrap_err().contains("No such file"));
     }

@@ -3,8 +3,8 @@ use crate::arguments::{Advertisement, Arguments};
 use crate::found::Found;
 use crate::limit::{Kind, Limits};
 use crate::links::Links;
-use crate::output;
 use crate::print::{level, notification, remark, say, Counts, Level, Text};
+use crate::refusals::Refusals;
 use crate::settle::Surroundings;
 use crate::socket::Received;
 use crate::sockets::Sockets;
@@ -26,6 +26,7 @@ pub struct Host {
     pub links: Links,
     pub around: Surroundings,
     pub counts: Counts,
+    pub refusals: Refusals,
     /// Of each link that is held, and of all others: those that were left, and those that are not served.
     pub traffic: BTreeMap<u32, Traffic>,
     pub other_traffic: Traffic,
@@ -50,6 +51,7 @@ impl Host {
             links: Links::default(),
             around: Surroundings::new(&arguments.interfaces),
             counts: Counts::default(),
+            refusals: Refusals::default(),
             traffic: BTreeMap::new(),
             other_traffic: Traffic::default(),
             subscriptions: vec![],
@@ -126,17 +128,7 @@ impl Host {
 
     /// Prints what was counted of each link, and the ledger.
     pub fn say_counts(&self) {
-        for (index, sockets) in &self.sockets {
-            let traffic = Traffic { dropped: sockets.dropped(), ..self.traffic[index] };
-            say(format_args!("link {}: {traffic}", self.around.name(*index)));
-        }
-        if self.other_traffic != Traffic::default() {
-            say(format_args!("other links: {}", self.other_traffic));
-        }
-        if output::lost() > 0 {
-            say(format_args!("lines not printed {}", output::lost()));
-        }
-        self.counts.say(self.engine.waiting());
+        self.status().count_lines().iter().for_each(|line| say(format_args!("{line}")));
     }
 
     /// Calls the engine, if the instant that it named has come.
@@ -176,7 +168,10 @@ impl Host {
         }
         let answer = match self.engine.on_data(self.now(), sender, receiver, datagram) {
             Ok(answer) => answer,
-            Err(refusal) => return self.report_limited(Kind::Refused(refusal.number()), format_args!("datagram from {sender}: {refusal}")),
+            Err(refusal) => {
+                self.refusals.count(refusal);
+                return self.report_limited(Kind::Refused(refusal.number()), format_args!("datagram from {sender}: {refusal}"));
+            }
         };
         self.counts.add(&answer);
         if let (1.., Ok(message)) = (answer.told, kohlsilk::parse(datagram)) {

@@ -37,6 +37,10 @@ impl Link {
         self.flags & flags::UP != 0 && self.flags & flags::RUNNING != 0
     }
 
+    pub fn is_loopback(&self) -> bool {
+        self.flags & libc::IFF_LOOPBACK as u32 != 0
+    }
+
     pub fn has_multicast(&self) -> bool {
         self.flags & flags::MULTICAST != 0
     }

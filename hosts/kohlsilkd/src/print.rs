@@ -96,13 +96,14 @@ pub fn record(record: &Record) -> String {
 }
 
 /// The reply ledger: five sums over all answers, and the waiting of the latest.
-#[derive(Default)]
+#[derive(Clone, Copy, Default)]
 pub struct Counts {
-    matched: usize,
-    joined: usize,
-    alone: usize,
-    group: usize,
-    dropped: usize,
+    pub matched: usize,
+    pub joined: usize,
+    pub alone: usize,
+    pub group: usize,
+    pub dropped: usize,
+    pub waiting: usize,
 }
 
 impl Counts {
@@ -112,11 +113,20 @@ impl Counts {
         self.alone += answer.alone;
         self.group += answer.group;
         self.dropped += answer.dropped;
+        self.waiting = answer.waiting;
     }
 
-    pub fn say(&self, waiting: usize) {
-        let Counts { matched, joined, alone, group, dropped } = self;
-        say(format_args!("matched {matched}, joined {joined}, alone {alone}, group {group}, dropped {dropped}, waiting {waiting}"));
+    /// Each count with its name.
+    pub fn named(&self) -> [(&'static str, usize); 6] {
+        let Counts { matched, joined, alone, group, dropped, waiting } = *self;
+        [("matched", matched), ("joined", joined), ("alone", alone), ("group", group), ("dropped", dropped), ("waiting", waiting)]
+    }
+}
+
+impl fmt::Display for Counts {
+    fn fmt(&self, f: &mut fmt::Formatter<'_>) -> fmt::Result {
+        let named = self.named().map(|(name, count)| format!("{name} {count}"));
+        write!(f, "{}", named.join(", "))
     }
 }
 

@@ -15,6 +15,7 @@ impl Host {
         let answer = match answer {
             Ok(answer) => answer,
             Err(refusal) => {
+                self.refusals.count(refusal);
                 report(format_args!("{}: {refusal}", what()));
                 return None;
             }

@@ -3,9 +3,10 @@
 use crate::choose::{choose, LeftOut};
 use crate::host::{error_number, Host};
 use crate::netlink::News;
-use crate::network::{Named, Network};
+use crate::network::{Link, Named, Network};
 use crate::print::{note, remark, report};
 use crate::sockets::Sockets;
+use crate::status::up_or_down;
 use crate::traffic::Traffic;
 use kohlsilk::ADDRESSES;
 use std::collections::{BTreeMap, BTreeSet};
@@ -36,9 +37,28 @@ impl Surroundings {
         Surroundings { names: names.to_vec(), ..Surroundings::default() }
     }
 
+    pub fn link_name(&self, index: u32) -> &str {
+        self.network.links.get(&index).map_or("link", |link| &link.name)
+    }
+
+    /// A link's name and its index, as they are printed.
     pub fn name(&self, index: u32) -> String {
-        let name = self.network.links.get(&index).map_or("link", |link| &link.name);
-        Named(name, index).to_string()
+        Named(self.link_name(index), index).to_string()
+    }
+
+    /// A whole survey has ended: nothing is kept of what it did not find.
+    fn forget_unseen(&mut self) {
+        self.network.forget_unseen();
+        self.failed.retain(|index, _| self.network.links.contains_key(index));
+    }
+
+    /// The links that are left out, with their names and the reason. The loopback link goes without saying.
+    pub fn left_out(&self) -> Vec<(u32, &str, &LeftOut)> {
+        let told = self.said_left_out.iter().filter_map(|(index, why)| {
+            let link = self.network.links.get(index).filter(|link| !goes_without_saying(link))?;
+            Some((*index, link.name.as_str(), why))
+        });
+        told.collect()
     }
 
     /// A link could not be joined. It is not held.
@@ -49,7 +69,7 @@ impl Surroundings {
 
     /// Whether a searcher may be answered: it is on a network of the link by which its search came, which is served, or on this machine.
     pub fn may_answer(&self, searcher: Ipv4Addr, link: u32, is_served: bool) -> bool {
-        let is_loopback = self.network.links.get(&link).is_some_and(|link| link.flags & libc::IFF_LOOPBACK as u32 != 0);
+        let is_loopback = self.network.links.get(&link).is_some_and(Link::is_loopback);
         (is_served || is_loopback) && self.network.is_near(link, searcher)
     }
 
@@ -57,7 +77,7 @@ impl Surroundings {
     fn say_left_out(&mut self, left_out: BTreeMap<u32, LeftOut>) {
         for (index, why) in &left_out {
             let link = &self.network.links[index];
-            let plain = *why == LeftOut::NotNamed || link.flags & libc::IFF_LOOPBACK as u32 != 0 || link.name.is_empty();
+            let plain = *why == LeftOut::NotNamed || goes_without_saying(link);
             if !plain && self.said_left_out.get(index) != Some(why) {
                 remark(format_args!("link {} left out: {why}", Named(&link.name, *index)));
             }
@@ -95,7 +115,7 @@ impl Host {
             News::ListEnd { whole } => {
                 around.surveying = false;
                 if whole {
-                    around.network.forget_unseen();
+                    around.forget_unseen();
                 }
                 if whole && std::mem::take(&mut self.around.news_lost) {
                     self.leave_all();
@@ -167,6 +187,9 @@ impl Host {
         let opened = Sockets::open(index, self.ttl);
         let outcome = opened.as_ref().map_or_else(error_number, |_| 0);
         let answer = self.engine.new_link(index, flags, outcome, &mut self.outbox);
+        if let Err(refusal) = answer {
+            self.refusals.count(refusal);
+        }
         let sockets = match (opened, &answer) {
             (Ok(sockets), Ok(_)) => sockets,
             (Err(error), _) => return self.around.fails(index, format!("the group cannot be joined on it: {error}")),
@@ -240,9 +263,7 @@ impl Host {
     }
 }
 
-fn up_or_down(up: bool) -> &'static str {
-    match up {
-        true => "up",
-        false => "down",
-    }
+/// Whether nobody expects a link to be served: the loopback, or one of which only an address was told.
+fn goes_without_saying(link: &Link) -> bool {
+    link.is_loopback() || link.name.is_empty()
 }

@@ -4,9 +4,10 @@ use std::io;
 use std::mem::{size_of, MaybeUninit};
 use std::os::fd::{AsRawFd, FromRawFd, OwnedFd, RawFd};
 
-/// Waits until one of the descriptors can be read, at most so many milliseconds, and says which can.
-pub fn wait(descriptors: &[RawFd], milliseconds: u64) -> io::Result<Vec<bool>> {
-    let mut polled: Vec<_> = descriptors.iter().map(|fd| libc::pollfd { fd: *fd, events: libc::POLLIN, revents: 0 }).collect();
+/// Waits until one of the descriptors can be read, or written where that is asked for (`true`), at most so many milliseconds, and says which can.
+pub fn wait(descriptors: &[(RawFd, bool)], milliseconds: u64) -> io::Result<Vec<bool>> {
+    let events = |writes| if writes { libc::POLLOUT } else { libc::POLLIN };
+    let mut polled: Vec<_> = descriptors.iter().map(|(fd, writes)| libc::pollfd { fd: *fd, events: events(*writes), revents: 0 }).collect();
     let milliseconds = milliseconds.min(i32::MAX as u64) as i32;
     // SAFETY: the array is writable for its length.
     match checked(unsafe { libc::poll(polled.as_mut_ptr(), polled.len() as _, milliseconds) }) {

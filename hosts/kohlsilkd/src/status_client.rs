@@ -21,9 +21,35 @@ pub fn ask(path: &Path, form: Form) -> io::Result<String> {
         Form::Json => b"json\n",
     })?;
     let mut told = String::new();
-    stream.take(LONGEST).read_to_string(&mut told)?;
-    match told.is_empty() {
-        true => Err(io::ErrorKind::UnexpectedEof.into()),
-        false => Ok(told),
+    match stream.take(LONGEST).read_to_string(&mut told) {
+        Ok(0) => Err(io::ErrorKind::UnexpectedEof.into()),
+        Ok(_) => Ok(told),
+        Err(error) if error.kind() == io::ErrorKind::WouldBlock => Err(io::Error::other(format!("nothing came in {PATIENCE:?}"))),
+        Err(error) => Err(error),
+    }
+}
+
+#[cfg(test)]
+mod tests {
+    use super::*;
+    use std::os::unix::net::UnixListener;
+
+    #[test]
+    fn what_is_told_and_what_is_not() {
+        let path = std::env::temp_dir().join(format!("kohlsilkd-{}-client", std::process::id()));
+        let listener = UnixListener::bind(&path).unwrap();
+        let server = std::thread::spawn(move || {
+            for answer in ["told\n", ""] {
+                let (mut stream, mut word) = (listener.accept().unwrap().0, [0; 5]);
+                stream.read_exact(&mut word).unwrap();
+                assert_eq!(&word, b"json\n");
+                stream.write_all(answer.as_bytes()).unwrap();
+            }
+        });
+        assert_eq!(ask(&path, Form::Json).unwrap(), "told\n");
+        assert_eq!(ask(&path, Form::Json).unwrap_err().kind(), io::ErrorKind::UnexpectedEof);
+        server.join().unwrap();
+        assert_eq!(ask(&path, Form::Json).unwrap_err().kind(), io::ErrorKind::ConnectionRefused);
+        std::fs::remove_file(&path).unwrap();
     }
 }

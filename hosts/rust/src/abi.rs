@@ -400,8 +400,6 @@ mod tests {
                     numbers[..5].copy_from_slice(&[NAME_SIZE as u64, 3, 7, 5, (roll() % 3).into()]);
                 }
             }
-            let names: Vec<_> = e.name_rows().map(|(numbers, texts)| crate::Name::read(numbers, texts)).collect();
-            assert!(names.len() <= NAMES && names.iter().all(|name| name.location.len() <= LOCATION_SIZE));
             let (outbox, behind) = bytes.split_at_mut(OUTBOX_SIZE);
             let index = e.links[0] as u32;
             let (mut name, mut address) = ([0; NAME_SIZE], [0; 4]);
@@ -424,6 +422,20 @@ mod tests {
             assert!(answers.iter().all(|answer| answer.refusal <= 14 && answer.records <= RECORDS));
             assert!(behind.iter().all(|byte| *byte == 0));
         }
+    }
+
+    /// A count or a length above its table means the whole table, in reading too.
+    #[test]
+    fn any_numbers_are_names() {
+        let mut e = EngineArrays::BLANK;
+        assert_eq!(e.name_rows().count(), 0);
+        (e.head, e.numbers, e.texts) = ([u64::MAX; HEAD_PLACES], [u64::MAX; NUMBERS_WIDTH * NAMES], [b'a'; TEXTS_WIDTH * NAMES]);
+        let names: Vec<_> = e.name_rows().map(|(numbers, texts)| crate::Name::read(numbers, texts)).collect();
+        let [name, service_type, location] = [NAME_SIZE, TYPE_SIZE, LOCATION_SIZE].map(|size| "a".repeat(size));
+        let searcher = "255.255.255.255:65535".parse().unwrap();
+        let reply = Some(crate::Reply::Searcher { due: u64::MAX, searcher });
+        let whole = crate::Name { name: &name, service_type: &service_type, location: &location, reply };
+        assert_eq!(names, [whole; NAMES]);
     }
 
     /// The C compiler has the header's sizes, and its structs with the same places.

@@ -265,6 +265,22 @@ mod tests {
         std::fs::remove_file(path).unwrap();
     }
 
+    /// The example that hosts/install lays out: as it stands it announces nothing, which is said, and once its settings, which are comments, are let
+    /// stand it is taken. It is read and not served, which would send to this machine's network.
+    #[test]
+    fn the_installed_example() {
+        let example = include_str!("../../dist/kohlsilkd.conf");
+        let path = config(example);
+        let line = format!("--config {}", path.display());
+        assert_eq!(read(&line).unwrap_err(), "nothing to advertise and nothing to subscribe to");
+        let settings: Vec<&str> = example.lines().filter_map(|line| line.strip_prefix('#')).filter(|line| !line.starts_with(' ')).collect();
+        std::fs::write(&path, settings.join("\n")).unwrap();
+        let taken = read(&line).unwrap();
+        assert_eq!((settings.len(), taken.advertisements.len(), taken.interfaces, taken.answer_anyone), (5, 4, vec!["eth0".into()], true));
+        assert_eq!(taken.level, Level::Quiet);
+        std::fs::remove_file(path).unwrap();
+    }
+
     #[test]
     fn wrong_lines() {
         let path = config("subscribe a\nadvertise u t\n");

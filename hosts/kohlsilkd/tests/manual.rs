@@ -1,5 +1,4 @@
-//! What hosts/install lays out for kohlsilkd's users: the manual page has every option of `--help` and no other, and the example
-//! configuration is one.
+//! The manual page has every option of `--help` and no other.
 use std::collections::BTreeSet;
 use std::process::Command;
 
@@ -19,22 +18,4 @@ fn every_option_stands_in_the_manual_page() {
     assert_eq!(options(page, "Fl -"), help, "left: the page; right: --help");
     // Each is described, not only named.
     assert_eq!(options(page, ".It Fl -"), help, "left: what the page describes; right: --help");
-}
-
-/// The example configuration is taken once its settings, which are comments, are let stand.
-#[test]
-fn the_example_configuration_is_taken() {
-    let example = include_str!("../../dist/kohlsilkd.conf");
-    let settings: Vec<&str> = example.lines().filter_map(|line| line.strip_prefix('#')).filter(|line| !line.starts_with(' ')).collect();
-    assert_eq!(settings.len(), 5, "{settings:?}");
-    let file = concat!(env!("CARGO_TARGET_TMPDIR"), "/kohlsilkd.conf");
-    let ended = |text: String| {
-        std::fs::write(file, text).unwrap();
-        Command::new(env!("CARGO_BIN_EXE_kohlsilkd")).args(["--config", file, "--seconds", "0"]).output().unwrap()
-    };
-    // 2 is a wrong configuration; where another program has the port it is 1.
-    let taken = ended(settings.join("\n"));
-    assert_ne!(taken.status.code(), Some(2), "{}", String::from_utf8_lossy(&taken.stderr));
-    // As it stands it announces nothing, which is said.
-    assert_eq!(ended(example.into()).status.code(), Some(2));
 }

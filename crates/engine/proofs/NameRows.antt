@@ -2,7 +2,7 @@
 use mathlib.Core.Path.{_≡_, refl, sym, _∙_, ap, subst}
 use mathlib.Core.List.{List, [], _∷_, _++_, append-assoc}
 use Prim.Native.Nat.{ℕ, suc, min, _+_, _*_, _-_, _≤_, _<_}
-use native.Mathlib.Nat.{add-zero, mod-eq-of-lt, min-eq-left, min-eq-right}
+use native.Mathlib.Nat.{mod-eq-of-lt, min-eq-left, min-eq-right}
 use native.Mathlib.Decide.{decLe}
 use native.Mathlib.Numerals.{add-one}
 use native.Mathlib.Omega.{arith}

@@ -21,7 +21,7 @@ at s e line outbox = record { state = s; engine = e; line = line; outbox = outbo
 abbrev pub remains : Moment → List ℕ → List ℕ
 remains m later = toPrint (m .state) (m .engine) (m .line) (m .outbox) later
 
--- what is due is none-due, piece by piece: from one moment to another, with the text that is written
+-- what is due is printed, piece by piece: from one moment to another, with the text that is written
 pub data PrintsDue : Moment → Moment → List ℕ → Type 0 where
   none-due : {m : Moment} → m .state .printing ≡ false → PrintsDue m m []
   piece : {s s′ : State} {e : Engine} {line outbox text more : List ℕ} {m : Moment} → PrintsPiece s outbox s′ text → PrintsDue (at s′ e line outbox) m more

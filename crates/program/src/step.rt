@@ -191,7 +191,7 @@ fn say_stain(out: &mut [u8], lent: &[u8], n: usize) -> usize
     buffer::append(out, 0, b"!\n")
 }
 
-// PrintsPiece the next piece of what is due of an answer: a record, or behind the last whether a call wrote what it should not.
+// Prints the next piece of what is due of an answer: a record, or behind the last whether a call wrote what it should not.
 pub fn print_due(s: State, outbox: &[u8], out: &mut [u8]) -> Step
     ensures { λ r. ⌜ (s .printing ≡ true → pieceMax ≤ length (now (out .entry)) → PrintsPiece s (now (outbox .entry)) (r .state) (take (r .len) (now (out .exit)))) ⌝ }
 {

@@ -31,7 +31,8 @@ extern "C" {
 /* The latest time, in milliseconds: a call with a later one is refused. */
 #define KOHLSILK_TIME_MAX UINT64_C(0x7fffffffffffffff)
 
-/* What a record takes of an outbox, the most records of a call, and the length of an outbox that no call refuses. */
+/* What a record takes of an outbox, the most records of a call, and the length of an outbox that no call refuses. Most calls need less:
+ * kohlsilk_refresh_need and its like, below, tell how much. */
 #define KOHLSILK_RECORD 524
 #define KOHLSILK_RECORDS ((2 * KOHLSILK_NAMES + KOHLSILK_SUBSCRIPTIONS) * KOHLSILK_LINKS * KOHLSILK_ADDRESSES)
 #define KOHLSILK_OUTBOX (KOHLSILK_RECORD * KOHLSILK_RECORDS)
@@ -48,7 +49,7 @@ extern "C" {
 enum kohlsilk_refusal {
     KOHLSILK_ACCEPTED = 0,
     KOHLSILK_TIME_LATE = 1,         /* a time above KOHLSILK_TIME_MAX */
-    KOHLSILK_OUTBOX_SHORT = 2,      /* an outbox under KOHLSILK_OUTBOX bytes */
+    KOHLSILK_OUTBOX_SHORT = 2,      /* an outbox shorter than what this very call needs, where nothing else refuses the call */
     KOHLSILK_TEXT_OVER_SIZE = 3,    /* a type, a name or a location over its size (in a build a location may have 135 bytes) */
     KOHLSILK_TEXT_NOT_GOOD = 4,     /* a text not UTF-8, holding a line end, or starting or ending in white space */
     KOHLSILK_TABLE_FULL = 5,        /* a new name or a subscription where KOHLSILK_NAMES or KOHLSILK_SUBSCRIPTIONS are held */
@@ -116,6 +117,17 @@ struct kohlsilk_answer kohlsilk_lent_on_data(const uint64_t *head, const uint8_t
 struct kohlsilk_answer kohlsilk_lent_handle_timeout(uint64_t *head, const uint64_t *links, const uint8_t *searches, uint64_t *numbers,
                                                     const uint8_t *texts, uint64_t time, uint8_t *outbox, size_t outbox_len);
 struct kohlsilk_answer kohlsilk_lent_reset_refresh_timer(uint64_t *head, const uint64_t *numbers, uint64_t time);
+
+/* What each of those that send needs of an outbox: these read the arrays and change nothing. */
+size_t kohlsilk_lent_announcement_need(const uint64_t *head, const uint64_t *links); /* of subscribe and of advertise */
+size_t kohlsilk_lent_deadvertise_need(const uint64_t *head, const uint64_t *links, const uint64_t *numbers, const uint8_t *texts,
+                                      const uint8_t *name, size_t name_len);
+size_t kohlsilk_lent_refresh_need(const uint64_t *head, const uint64_t *links, const uint8_t *searches);
+size_t kohlsilk_lent_handle_timeout_need(const uint64_t *head, const uint64_t *links, const uint8_t *searches, const uint64_t *numbers,
+                                         uint64_t time);
+size_t kohlsilk_lent_new_link_need(const uint64_t *head, const uint64_t *links, const uint8_t *searches, uint32_t index, uint32_t flags);
+size_t kohlsilk_lent_new_address_need(const uint64_t *head, const uint64_t *links, const uint8_t *searches, uint32_t index,
+                                      const uint8_t *address, size_t address_len);
 
 /* Makes an engine in memory that the host lends, whatever is in it. Its first salvo is due at `time`. The seed spreads the
  * delays of replies and refreshes: take a random one for each machine. */
@@ -203,6 +215,60 @@ static inline struct kohlsilk_answer kohlsilk_handle_timeout(struct kohlsilk_eng
 static inline struct kohlsilk_answer kohlsilk_reset_refresh_timer(struct kohlsilk_engine *engine, uint64_t time)
 {
     return kohlsilk_lent_reset_refresh_timer(engine->head, engine->numbers, time);
+}
+
+/* How many bytes of outbox a call needs: KOHLSILK_RECORD for each record that this very call would write. A shorter outbox is refused by
+ * KOHLSILK_OUTBOX_SHORT, a longer one is not written to behind the last record, and a call that writes none takes one of 0 bytes. With
+ *
+ *   names      how many names are held,
+ *   searches   how many subscriptions are held, or 1 where one of them is `ssdp:all`,
+ *   addresses  how many addresses there are on links that are up,
+ *
+ * a call's records are
+ *
+ *   subscribe, advertise  addresses
+ *   deadvertise           addresses, for a name that is held; otherwise 0
+ *   refresh               (names + searches) * addresses
+ *   handle_timeout        those of refresh where the salvo is due, and for each reply that is due 1 to a lone searcher, or addresses to the group
+ *   new_link              (names + searches) * the link's own addresses, for a link that is held and turns up; otherwise 0
+ *   new_address           names + searches, for an address that is stored on a link that is up; otherwise 0
+ *
+ * which is never more than KOHLSILK_RECORDS: an outbox of KOHLSILK_OUTBOX bytes is long enough for every call on any engine. A host with little
+ * memory asks right before the call, with the call's own arguments, and lends so many bytes; the answer is good until the next call on that engine. */
+static inline size_t kohlsilk_subscribe_need(const struct kohlsilk_engine *engine)
+{
+    return kohlsilk_lent_announcement_need(engine->head, engine->links);
+}
+
+static inline size_t kohlsilk_advertise_need(const struct kohlsilk_engine *engine)
+{
+    return kohlsilk_lent_announcement_need(engine->head, engine->links);
+}
+
+static inline size_t kohlsilk_deadvertise_need(const struct kohlsilk_engine *engine, const uint8_t *name, size_t name_len)
+{
+    return kohlsilk_lent_deadvertise_need(engine->head, engine->links, engine->numbers, engine->texts, name, name_len);
+}
+
+static inline size_t kohlsilk_refresh_need(const struct kohlsilk_engine *engine)
+{
+    return kohlsilk_lent_refresh_need(engine->head, engine->links, engine->searches);
+}
+
+static inline size_t kohlsilk_handle_timeout_need(const struct kohlsilk_engine *engine, uint64_t time)
+{
+    return kohlsilk_lent_handle_timeout_need(engine->head, engine->links, engine->searches, engine->numbers, time);
+}
+
+static inline size_t kohlsilk_new_link_need(const struct kohlsilk_engine *engine, uint32_t index, uint32_t flags)
+{
+    return kohlsilk_lent_new_link_need(engine->head, engine->links, engine->searches, index, flags);
+}
+
+static inline size_t kohlsilk_new_address_need(const struct kohlsilk_engine *engine, uint32_t index, const uint8_t *address,
+                                               size_t address_len)
+{
+    return kohlsilk_lent_new_address_need(engine->head, engine->links, engine->searches, index, address, address_len);
 }
 
 /* Messages by themselves. */

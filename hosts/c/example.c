@@ -43,7 +43,9 @@ int main(void)
     show(kohlsilk_advertise(&engine, bytes("u1"), 2, bytes("t:2"), 3, bytes("http://h/d"), 10, outbox, sizeof outbox));
     show(kohlsilk_on_data(&engine, 100, first, 5000, here, bytes(search), strlen(search)));
     show(kohlsilk_on_data(&engine, 101, second, 5000, here, bytes(search), strlen(search)));
-    size_t records = show(kohlsilk_handle_timeout(&engine, 110, outbox, sizeof outbox));
+    /* A host with little memory lends no more than the call needs. */
+    size_t need = kohlsilk_handle_timeout_need(&engine, 110);
+    size_t records = show(kohlsilk_handle_timeout(&engine, 110, outbox, need));
     for (size_t k = 0; k < records; k++)
         send_record(outbox + KOHLSILK_RECORD * k);
     return 0;

@@ -102,6 +102,20 @@ static void call_notify(void) { answer = kohlsilk_on_data(&engine, NOW, 1, 5000,
 static void call_handle_timeout(void) { answer = kohlsilk_handle_timeout(&engine, NOW + 10, outbox, sizeof outbox); }
 static void call_reset_refresh_timer(void) { answer = kohlsilk_reset_refresh_timer(&engine, NOW); }
 
+/* What a call needs, as the records of that call. */
+static void note_need(size_t bytes)
+{
+    memset(&answer, 0, sizeof answer);
+    answer.records = bytes / KOHLSILK_RECORD;
+}
+
+static void call_announcement_need(void) { note_need(kohlsilk_advertise_need(&engine)); }
+static void call_deadvertise_need(void) { note_need(kohlsilk_deadvertise_need(&engine, named(0), sizeof name)); }
+static void call_refresh_need(void) { note_need(kohlsilk_refresh_need(&engine)); }
+static void call_handle_timeout_need(void) { note_need(kohlsilk_handle_timeout_need(&engine, NOW + 10)); }
+static void call_new_link_need(void) { note_need(kohlsilk_new_link_need(&engine, 1, UP)); }
+static void call_new_address_need(void) { note_need(kohlsilk_new_address_need(&engine, 1, address, sizeof address)); }
+
 enum { SOURCES = KOHLSILK_LINKS * KOHLSILK_ADDRESSES, ALL = KOHLSILK_NAMES + KOHLSILK_SUBSCRIPTIONS };
 
 static const struct {
@@ -123,6 +137,12 @@ static const struct {
     {"on_data, a notice", ready_nothing, call_notify, 0},
     {"handle_timeout", ready_nothing, call_handle_timeout, KOHLSILK_RECORDS},
     {"reset_refresh_timer", ready_nothing, call_reset_refresh_timer, 0},
+    {"announcement_need", ready_nothing, call_announcement_need, SOURCES},
+    {"deadvertise_need", ready_nothing, call_deadvertise_need, SOURCES},
+    {"refresh_need", ready_nothing, call_refresh_need, SOURCES * ALL},
+    {"handle_timeout_need", ready_nothing, call_handle_timeout_need, KOHLSILK_RECORDS},
+    {"new_link_need", ready_down, call_new_link_need, KOHLSILK_ADDRESSES * ALL},
+    {"new_address_need", ready_room, call_new_address_need, ALL},
 };
 
 static void (*made)(void);

@@ -1,7 +1,8 @@
 /* Bytes to calls (calls.h). A list of calls goes by an engine that `new` makes of whatever the arrays hold, or by arrays of any content. Looked at
  * after each call: nothing beside what it was lent is touched (room.h); what it may only read, and all where it is refused, is as it was; it
- * is refused by no number but those that document 01 lists for it; records lie in the outbox as the header says; and from `new` on,
- * matched = joined + alone + group + dropped + waiting. */
+ * is refused by no number but those that document 01 lists for it; records lie in the outbox as the header says, and fill what the call was said to need;
+ * and from `new` on, matched = joined + alone + group + dropped + waiting. A call that is lent too short an outbox is made again with what it needs: it
+ * was refused by 2 exactly if nothing refuses it then. */
 #include "calls.h"
 #include "input.h"
 #include "messages.h"
@@ -98,32 +99,72 @@ static struct kohlsilk_answer make_reset(void)
     return kohlsilk_lent_reset_refresh_timer(words(HEAD), words(NUMBERS), with.time);
 }
 
+static size_t need_nothing(void)
+{
+    return 0;
+}
+
+static size_t need_new_link(void)
+{
+    return kohlsilk_lent_new_link_need(words(HEAD), words(LINKS), BYTES(SEARCHES), with.index, with.flags);
+}
+
+static size_t need_new_address(void)
+{
+    return kohlsilk_lent_new_address_need(words(HEAD), words(LINKS), BYTES(SEARCHES), with.index, TEXT(ADDRESS));
+}
+
+static size_t need_announcement(void)
+{
+    return kohlsilk_lent_announcement_need(words(HEAD), words(LINKS));
+}
+
+static size_t need_deadvertise(void)
+{
+    return kohlsilk_lent_deadvertise_need(words(HEAD), words(LINKS), words(NUMBERS), BYTES(TEXTS), TEXT(NAME));
+}
+
+static size_t need_refresh(void)
+{
+    return kohlsilk_lent_refresh_need(words(HEAD), words(LINKS), BYTES(SEARCHES));
+}
+
+static size_t need_handle_timeout(void)
+{
+    return kohlsilk_lent_handle_timeout_need(words(HEAD), words(LINKS), BYTES(SEARCHES), words(NUMBERS), with.time);
+}
+
 #define BIT(k) (1u << (k))
 
-/* The calls: what each takes beside the arrays, which of what it is lent it may change, and the numbers by which document 01 has it refused. */
+/* The calls: what each needs of an outbox, what it takes beside the arrays, which of what it is lent it may change, and the numbers by which document 01
+ * has it refused. */
 static const struct call {
     const char *name;
     struct kohlsilk_answer (*make)(void);
+    size_t (*need)(void);
     uint32_t takes, changes, refusals;
 } calls[] = {
-    {"new", make_new, BIT(TIME), BIT(HEAD), BIT(1)},
-    {"new_link", make_new_link, BIT(OUTBOX), BIT(HEAD) | BIT(LINKS) | BIT(OUTBOX), BIT(2) | BIT(11) | BIT(13) | BIT(14)},
-    {"deleted_link", make_deleted_link, 0, BIT(HEAD) | BIT(LINKS), BIT(11)},
-    {"new_address", make_new_address, BIT(ADDRESS) | BIT(OUTBOX), BIT(HEAD) | BIT(LINKS) | BIT(OUTBOX), BIT(2) | BIT(11) | BIT(12) | BIT(13)},
-    {"deleted_address", make_deleted_address, BIT(ADDRESS), BIT(HEAD) | BIT(LINKS), BIT(11) | BIT(12)},
-    {"subscribe", make_subscribe, BIT(TYPE) | BIT(OUTBOX), BIT(HEAD) | BIT(SEARCHES) | BIT(OUTBOX), BIT(2) | BIT(3) | BIT(4) | BIT(5)},
-    {"advertise", make_advertise, BIT(NAME) | BIT(TYPE) | BIT(LOCATION) | BIT(OUTBOX), BIT(HEAD) | BIT(NUMBERS) | BIT(TEXTS) | BIT(OUTBOX),
+    {"new", make_new, need_nothing, BIT(TIME), BIT(HEAD), BIT(1)},
+    {"new_link", make_new_link, need_new_link, BIT(OUTBOX), BIT(HEAD) | BIT(LINKS) | BIT(OUTBOX), BIT(2) | BIT(11) | BIT(13) | BIT(14)},
+    {"deleted_link", make_deleted_link, need_nothing, 0, BIT(HEAD) | BIT(LINKS), BIT(11)},
+    {"new_address", make_new_address, need_new_address, BIT(ADDRESS) | BIT(OUTBOX), BIT(HEAD) | BIT(LINKS) | BIT(OUTBOX),
+     BIT(2) | BIT(11) | BIT(12) | BIT(13)},
+    {"deleted_address", make_deleted_address, need_nothing, BIT(ADDRESS), BIT(HEAD) | BIT(LINKS), BIT(11) | BIT(12)},
+    {"subscribe", make_subscribe, need_announcement, BIT(TYPE) | BIT(OUTBOX), BIT(HEAD) | BIT(SEARCHES) | BIT(OUTBOX),
      BIT(2) | BIT(3) | BIT(4) | BIT(5)},
-    {"deadvertise", make_deadvertise, BIT(NAME) | BIT(OUTBOX), BIT(HEAD) | BIT(NUMBERS) | BIT(TEXTS) | BIT(OUTBOX), BIT(2)},
-    {"refresh", make_refresh, BIT(OUTBOX), BIT(OUTBOX), BIT(2)},
-    {"on_data", make_on_data, BIT(TIME) | BIT(DATAGRAM), BIT(NUMBERS) | BIT(TEXTS), BIT(1) | BIT(7) | BIT(8) | BIT(9) | BIT(10)},
-    {"handle_timeout", make_handle_timeout, BIT(TIME) | BIT(OUTBOX), BIT(HEAD) | BIT(NUMBERS) | BIT(OUTBOX), BIT(1) | BIT(2)},
-    {"reset_refresh_timer", make_reset, BIT(TIME), BIT(HEAD), BIT(1)},
+    {"advertise", make_advertise, need_announcement, BIT(NAME) | BIT(TYPE) | BIT(LOCATION) | BIT(OUTBOX),
+     BIT(HEAD) | BIT(NUMBERS) | BIT(TEXTS) | BIT(OUTBOX), BIT(2) | BIT(3) | BIT(4) | BIT(5)},
+    {"deadvertise", make_deadvertise, need_deadvertise, BIT(NAME) | BIT(OUTBOX), BIT(HEAD) | BIT(NUMBERS) | BIT(TEXTS) | BIT(OUTBOX), BIT(2)},
+    {"refresh", make_refresh, need_refresh, BIT(OUTBOX), BIT(OUTBOX), BIT(2)},
+    {"on_data", make_on_data, need_nothing, BIT(TIME) | BIT(DATAGRAM), BIT(NUMBERS) | BIT(TEXTS), BIT(1) | BIT(7) | BIT(8) | BIT(9) | BIT(10)},
+    {"handle_timeout", make_handle_timeout, need_handle_timeout, BIT(TIME) | BIT(OUTBOX), BIT(HEAD) | BIT(NUMBERS) | BIT(OUTBOX), BIT(1) | BIT(2)},
+    {"reset_refresh_timer", make_reset, need_nothing, BIT(TIME), BIT(HEAD), BIT(1)},
 };
 
 enum { CALLS = sizeof calls / sizeof calls[0], NEW = 0, DATA = 9 };
 
-static size_t made[CALLS][REFUSALS];
+/* How often each was accepted, or refused by each number; and accepted with an outbox of 0 bytes. */
+static size_t made[CALLS][REFUSALS], lent_nothing[CALLS];
 
 /* What came of a call, for libFuzzer, which cannot see into the library. */
 __attribute__((section("__libfuzzer_extra_counters"))) static uint8_t outcomes[CALLS * REFUSALS * 8];
@@ -145,7 +186,6 @@ static uint32_t due_refusal(const struct call *call)
         int is_due;
     } by[] = {
         {1, with.time > KOHLSILK_TIME_MAX},
-        {2, rooms[OUTBOX].len < KOHLSILK_OUTBOX},
         {3, rooms[NAME].len > KOHLSILK_NAME_SIZE || rooms[TYPE].len > KOHLSILK_TYPE_SIZE || rooms[LOCATION].len > KOHLSILK_LOCATION_SIZE},
         {7, rooms[DATAGRAM].len == 0},
         {11, with.index == 0},
@@ -157,16 +197,21 @@ static uint32_t due_refusal(const struct call *call)
     return 0;
 }
 
-static void check_refusal(const struct call *call, const struct kohlsilk_answer *answer)
+static void check_refusal(const struct call *call, const struct kohlsilk_answer *answer, size_t need)
 {
-    const uint32_t by_arguments = BIT(1) | BIT(2) | BIT(3) | BIT(7) | BIT(11) | BIT(12), due = due_refusal(call);
+    const uint32_t by_arguments = BIT(1) | BIT(3) | BIT(7) | BIT(11) | BIT(12), due = due_refusal(call);
+    const int is_short = rooms[OUTBOX].len < need;
     must(answer->refusal < REFUSALS, call, answer, "a number that is no refusal");
     if (due != 0)
         must(answer->refusal == due, call, answer, "another refusal was due");
     else if (answer->refusal != 0)
         must((BIT(answer->refusal) & call->refusals & ~by_arguments) != 0, call, answer, "not to be refused by this number");
-    if (answer->refusal == 0)
+    must(answer->refusal != KOHLSILK_OUTBOX_SHORT || is_short, call, answer, "refused for an outbox that is long enough");
+    if (answer->refusal == 0) {
+        must(!is_short, call, answer, "accepted with an outbox that is too short");
+        must(answer->records * KOHLSILK_RECORD == need, call, answer, "other records than it was said to need room for");
         return;
+    }
     const size_t sum = answer->records + answer->matched + answer->joined + answer->alone + answer->group + answer->dropped;
     must(sum == 0 && (answer->mask | answer->told | answer->leave) == 0, call, answer, "a refusal that counts something");
 }
@@ -219,6 +264,12 @@ static void check_ledger(const struct call *call, const struct kohlsilk_answer *
          "matched is not joined + alone + group + dropped + waiting");
 }
 
+static void keep_all(void)
+{
+    for (int k = 0; k < ROOMS; k++)
+        keep(&rooms[k]);
+}
+
 /* Lends a room what the input has for it, or nothing where the call does not take it. */
 static void lend_taken(const struct call *call, int room, struct input *input, size_t (*taken)(struct input *, uint8_t *), int next_to_end)
 {
@@ -228,39 +279,65 @@ static void lend_taken(const struct call *call, int room, struct input *input, s
     memcpy(rooms[room].lent, bytes, len);
 }
 
-static void take_arguments(const struct call *call, struct input *input, uint64_t *now)
+static void take_arguments(const struct call *call, struct input *input, uint64_t *now, uint8_t sides)
 {
-    const uint8_t choice = take(input), sides = take(input);
+    const uint8_t choice = take(input);
     with.seed = (uint32_t)take_number(input, choice < 64 ? 4 : 1);
     /* Few links and few searchers, so that they are met again; now and then any. */
     with.index = choice < 4 ? (uint32_t)take_number(input, 4) : choice % 5;
-    with.flags = choice < 240 ? KOHLSILK_UP | KOHLSILK_RUNNING | KOHLSILK_MULTICAST : (uint32_t)take_number(input, 2);
+    /* Most links are up; some turn down, to turn up again with their addresses. */
+    with.flags = choice < 176 ? KOHLSILK_UP | KOHLSILK_RUNNING | KOHLSILK_MULTICAST : choice < 240 ? KOHLSILK_MULTICAST : (uint32_t)take_number(input, 2);
     with.outcome = choice % 16 == 1 ? take(input) : 0;
     with.sender = 0x0a000008 + choice % 2;
     with.port = choice < 8 ? (uint16_t)take_number(input, 2) : 5000;
     with.receiver = 0x0a000001;
     if (call->takes & BIT(TIME))
         with.time = take_time(input, now);
-    lend(&rooms[OUTBOX], call->takes & BIT(OUTBOX) ? take_outbox_length(input) : 0, sides & 1);
     for (int room = NAME; room <= LOCATION; room++)
         lend_taken(call, room, input, take_text, sides & 2);
     lend_taken(call, ADDRESS, input, take_address, sides & 4);
     lend_taken(call, DATAGRAM, input, take_datagram, sides & 8);
 }
 
-static void make_call(const struct call *call, struct input *input, uint64_t *now)
+static struct kohlsilk_answer make_checked(const struct call *call, size_t need)
 {
-    take_arguments(call, input, now);
-    for (int k = 0; k < ROOMS; k++)
-        keep(&rooms[k]);
+    keep_all();
     const struct kohlsilk_answer answer = call->make();
-    check_refusal(call, &answer);
+    check_refusal(call, &answer, need);
     check_rooms(call, &answer);
     check_ledger(call, &answer);
     check_answer(call, &answer);
     const size_t which = (size_t)(call - calls) * REFUSALS + answer.refusal;
     made[call - calls][answer.refusal]++;
+    lent_nothing[call - calls] += answer.refusal == 0 && rooms[OUTBOX].len == 0;
     outcomes[8 * which + ((answer.records != 0) | (answer.waiting != 0) << 1 | (answer.joined + answer.group + answer.dropped != 0) << 2)] = 1;
+    return answer;
+}
+
+/* What a call needs by the library's own word, which changes nothing. */
+static size_t need_of(const struct call *call)
+{
+    static const struct kohlsilk_answer NONE;
+    keep_all();
+    const size_t need = call->need();
+    must(need % KOHLSILK_RECORD == 0 && need <= KOHLSILK_OUTBOX, call, &NONE, "what it needs is no number of records, or more than any call does");
+    for (int k = 0; k < ROOMS; k++)
+        must(is_intact(&rooms[k]) && is_kept(&rooms[k], 0), call, &NONE, "what it needs was asked for, and something changed");
+    return need;
+}
+
+static void make_call(const struct call *call, struct input *input, uint64_t *now)
+{
+    const uint8_t sides = take(input);
+    take_arguments(call, input, now, sides);
+    const size_t need = need_of(call);
+    lend(&rooms[OUTBOX], call->takes & BIT(OUTBOX) ? take_outbox_length(input, need) : 0, sides & 1);
+    const struct kohlsilk_answer answer = make_checked(call, need);
+    if (rooms[OUTBOX].len >= need)
+        return;
+    lend(&rooms[OUTBOX], need, sides & 1);
+    const struct kohlsilk_answer again = make_checked(call, need);
+    must(answer.refusal == (again.refusal == 0 ? KOHLSILK_OUTBOX_SHORT : again.refusal), call, &answer, "with what it needs it answers otherwise");
 }
 
 /* Any content, next to one of the closed pages. */
@@ -317,6 +394,8 @@ void print_counts(void)
         for (int number = 0; number < REFUSALS; number++)
             if (number == 0 || calls[k].refusals & BIT(number))
                 printf("\t%d:%zu", number, made[k][number]);
+        if (calls[k].takes & BIT(OUTBOX))
+            printf("\tlent nothing:%zu", lent_nothing[k]);
         printf("\n");
     }
     print_message_counts();

@@ -98,13 +98,15 @@ size_t take_datagram(struct input *input, uint8_t *to)
     return len;
 }
 
-size_t take_outbox_length(struct input *input)
+size_t take_outbox_length(struct input *input, size_t need)
 {
-    static const size_t LIMITS[] = {0, 1, KOHLSILK_RECORD, KOHLSILK_OUTBOX - 1, KOHLSILK_OUTBOX + 1, KOHLSILK_OUTBOX + KOHLSILK_RECORD};
+    const size_t lengths[] = {
+        0, 1, need > 0 ? need - 1 : 0, need + 1, need + KOHLSILK_RECORD, KOHLSILK_OUTBOX - 1, KOHLSILK_OUTBOX, KOHLSILK_OUTBOX + KOHLSILK_RECORD,
+    };
     uint8_t kind = take(input);
-    if (kind < COUNT(LIMITS))
-        return LIMITS[kind];
-    return kind < 12 ? take_number(input, 2) : KOHLSILK_OUTBOX;
+    if (kind < 16)
+        return take_number(input, 2) % (need + 1);
+    return kind < 176 ? lengths[kind % COUNT(lengths)] : need;
 }
 
 uint64_t take_time(struct input *input, uint64_t *now)

@@ -22,7 +22,8 @@ size_t take_text(struct input *input, uint8_t *to);
 size_t take_address(struct input *input, uint8_t *to);
 size_t take_datagram(struct input *input, uint8_t *to);
 
-size_t take_outbox_length(struct input *input);
+/* The length of an outbox for a call that needs so many bytes: 0, around what it needs, or around what any call may. */
+size_t take_outbox_length(struct input *input, size_t need);
 
 /* A time near `now`, which moves with it; or one at the limits, or any. */
 uint64_t take_time(struct input *input, uint64_t *now);

@@ -8,7 +8,6 @@ use mathlib.Core.Option.{Option, none, some}
 use Prim.Native.Nat.{ℕ, zero, suc, _+_}
 use native.Mathlib.Omega.{arith}
 use Rattle.text.specs.Bytes.{equal, order}
-use Rattle.engine.specs.Sizes.{outboxSize}
 use Rattle.engine.specs.Table.{entryOf}
 use Rattle.engine.specs.Target.{targetMatch}
 use Rattle.engine.specs.Delay.{delay}
@@ -16,9 +15,10 @@ use Rattle.engine.specs.Held.{Text, Advertisement, Context, Held, isLess, adver
 use Rattle.engine.specs.Calls.{Call, Query, Act, Enters, Leaves, Asks, Ticks, acts, Counts, zeros, plus}
 use Rattle.engine.specs.Records.{isDue, notifyOn, replyRecords, dueRecords, flat}
 use Rattle.engine.specs.Replies.{sumOf, one, waits, waiting, sameSender, shared, askedNeed, askedAnswer, asked, matchedBy, joinedBy, servedNeed, served, isAlone, isGroup, aloneAt, groupAt, Result, newcomer, result, results}
-use Rattle.engine.specs.Refusals.{Names, refusal}
+use Rattle.engine.specs.Need.{Names}
+use Rattle.engine.specs.Refusals.{refusal}
 use Rattle.engine.specs.Engine.{namesOf, refusalOf, Step, accepted, unless, step}
-use Rattle.claims.specs.Ledger.{Wait, Name, named, withWait, waitCount, waitsIn, joined, searched, dueAt, timedOut, Acted, each, acted, actedAll, Ledger, refusalIn, Entry, entered, ifAccepted, entry, announced, repliesTo, ledgerRecords}
+use Rattle.claims.specs.Ledger.{Wait, Name, named, withWait, waitCount, waitsIn, joined, searched, dueAt, timedOut, Acted, each, ticked, acted, actedAll, Ledger, ledgerNames, refusalIn, Entry, entered, ifAccepted, entry, announced, repliesTo, ledgerRecords}
 use Rattle.claims.specs.Claim.{countsOf}
 use Rattle.engine.specs.declared.advertisement.Endpoint.{Endpoint}
 use Rattle.engine.specs.declared.advertisement.ResponseNeeded.{ResponseNeeded}
@@ -201,16 +201,13 @@ timed-same true up a n (Unicast due s r) (some w) p k l h = record {
 }
 
 -- ---- handle_timeout, at every name
-abbrev ticks : ℕ → List Name → Acted
-ticks now ns = each (λ n. timedOut (dueAt now (n .wait)) (n .wait)) ns
-
 pub record Timed (now : ℕ) (up : List ℕ) (as′ : List Advertisement) (ns : List Name) : Type 0 where
-  pub table : Table (map (served now) as′) (ticks now ns .names)
-  pub alone : sumOf (aloneAt now) as′ ≡ ticks now ns .adds .alone
-  pub group : sumOf (groupAt now) as′ ≡ ticks now ns .adds .group
-  pub matched : ticks now ns .adds .matched ≡ 0
-  pub joins : ticks now ns .adds .joined ≡ 0
-  pub dropped : ticks now ns .adds .dropped ≡ 0
+  pub table : Table (map (served now) as′) (ticked now ns .names)
+  pub alone : sumOf (aloneAt now) as′ ≡ ticked now ns .adds .alone
+  pub group : sumOf (groupAt now) as′ ≡ ticked now ns .adds .group
+  pub matched : ticked now ns .adds .matched ≡ 0
+  pub joins : ticked now ns .adds .joined ≡ 0
+  pub dropped : ticked now ns .adds .dropped ≡ 0
   pub sent : flat (dueRecords now up) as′ ≡ ledgerRecords now up ns
 
 served-row : (now : ℕ) (a : Advertisement) (n : Name) → Same a n → Same (served now a) (withWait n (timedOut (dueAt now (n .wait)) (n .wait) .wait))
@@ -299,10 +296,15 @@ accepted-same c x t =
 
 turned-at : (c : Call) (x : Context) {as′ : List Advertisement} {ns : List Name} → Table as′ ns →
     refusalOf (record { context = x; advertisements = as′ }) c ≡ refusalIn (record { context = x; names = ns }) c
-unfolding refusalOf namesOf refusalIn
+unfolding refusalOf namesOf refusalIn ledgerNames
 turned-at c x t =
     ap (λ (n : Names). refusal x n c)
-    (λ i. record { holds = λ name. rows-known before equal (λ a. a .name) (λ n. n .name) same-name name t i; count = rows-length t i; need = outboxSize })
+    (λ i. record {
+      holds = λ name. rows-known before equal (λ a. a .name) (λ n. n .name) same-name name t i;
+      count = rows-length t i;
+      alone = λ now. served-same now [] t .alone i;
+      group = λ now. served-same now [] t .group i;
+    })
 
 unless-same : (k : ℕ) (h : Held) (l : Ledger) (s : Step) (t : Entry) → Agree h l → Matches s t → Matches (unless k h s) (ifAccepted k l t)
 unless-same zero h l s t a m = m

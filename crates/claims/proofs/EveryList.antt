@@ -13,6 +13,7 @@ use Rattle.engine.specs.Links.{contextAfter}
 use Rattle.engine.specs.Records.{flat, records}
 use Rattle.engine.specs.Layout.{layout, written}
 use Rattle.engine.specs.Replies.{served, result, results}
+use Rattle.engine.specs.Need.{need, recordCount}
 use Rattle.engine.specs.Refusals.{checks, refusal, newRefusal}
 use Rattle.engine.specs.Engine.{namesOf, refusalOf, poll, notifies, refusedBy, accepted, newStep}
 use Rattle.engine.specs.Arrays.{Engine, engine, held}
@@ -151,7 +152,7 @@ module _ {New : ℕ → ℕ → Answered → Type 0} {Gives : Engine → Call �
 
     -- ---- calls that are not lent the subscriptions
     step-advertise : (name service location o : List ℕ) → Stepped Gives h (Advertise name service location (length o)) o
-    unfolding accepted contextAfter acts results result refusalOf refusal checks namesOf records notifies poll
+    unfolding accepted contextAfter acts results result refusalOf refusal checks need recordCount namesOf records notifies poll
     step-advertise name service location o =
         let c = Advertise name service location (length o) in
         let h′ = accepted h c .after in
@@ -164,7 +165,7 @@ module _ {New : ℕ → ℕ → Answered → Type 0} {Gives : Engine → Call �
         g searches = other h (h .context .links) (searchesOn h f searches) (h .advertisements)
 
     step-deadvertise : (name o : List ℕ) → Stepped Gives h (Deadvertise name (length o)) o
-    unfolding accepted contextAfter acts results result refusalOf refusal checks namesOf records notifies poll
+    unfolding accepted contextAfter acts results result refusalOf refusal checks need recordCount namesOf records notifies poll
     step-deadvertise name o =
         let c = Deadvertise name (length o) in
         let h′ = accepted h c .after in
@@ -182,7 +183,7 @@ module _ {New : ℕ → ℕ → Answered → Type 0} {Gives : Engine → Call �
     same-refused k texts = answer-same (suc k) 0 zeros _ h (other h [] [] (namesOn h f texts)) (waiting-on h f texts) (soonest-on h f _ texts)
 
     step-subscribe : (service o : List ℕ) → Stepped Gives h (Subscribe service (length o)) o
-    unfolding accepted contextAfter acts results result refusalOf refusal checks namesOf records notifies poll
+    unfolding accepted contextAfter acts results result refusalOf refusal checks need recordCount namesOf records notifies poll
     step-subscribe service o =
         let c = Subscribe service (length o) in
         let h′ = accepted h c .after in

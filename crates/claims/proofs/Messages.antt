@@ -112,7 +112,7 @@ module _ (laws : Laws) where
     addresses-built [] = nobody
     addresses-built (a ∷ l) = each-append (address-built a) (addresses-built l)
 
-  records-built : (h : Held) (c : Call) → Cleared (checks (h .context) (namesOf h c) c) → Reachable h → Each Built (records (h .context) (h .advertisements) c)
+  records-built : (h : Held) (c : Call) → Cleared (checks (h .context) (namesOf (h .advertisements)) c) → Reachable h → Each Built (records (h .context) (h .advertisements) c)
   unfolding checks records
   records-built h (NewLink index flags outcome room) p r =
       each-cond (turnsUp index flags (h .context .links))
@@ -145,4 +145,4 @@ unless-built (suc k) h s f = nobody
 pub step-built : Laws → (h : Held) (c : Call) → Reachable h → Each Built (step h c .sent)
 unfolding step accepted refusalOf
 step-built laws h c r =
-    unless-built (refusalOf h c) h (accepted h c) (λ e. records-built laws h c (cleared (h .context) (namesOf h c) c e) r)
+    unless-built (refusalOf h c) h (accepted h c) (λ e. records-built laws h c (cleared (h .context) (namesOf (h .advertisements)) c e) r)

@@ -21,7 +21,8 @@ use Rattle.engine.specs.Calls.{Call, NewLink, DeletedLink, NewAddress, DeletedA
 use Rattle.engine.specs.Links.{addressesOf, anyUp, contains, lastInto, isV4, addressOf, linkAt, stores, linkWith, linkNews, addressNews, addressGone, contextAfter}
 use Rattle.engine.specs.Records.{isDue}
 use Rattle.engine.specs.Replies.{sameSender, shared, askedNeed, askedAnswer, hits, asked, servedNeed, served, newcomer, result, results}
-use Rattle.engine.specs.Refusals.{tableFull, linksFull, Names, checks}
+use Rattle.engine.specs.Need.{Names}
+use Rattle.engine.specs.Refusals.{tableFull, linksFull, checks}
 use Rattle.engine.specs.Engine.{namesOf, refusalOf, Step, accepted, unless, step}
 use Rattle.engine.specs.declared.advertisement.Endpoint.{Endpoint}
 use Rattle.engine.specs.declared.advertisement.ResponseNeeded.{ResponseNeeded}
@@ -249,11 +250,11 @@ reachable-fresh seed time = record {
 pub accepted-reachable : Laws → (h : Held) (c : Call) → refusalOf h c ≡ 0 → Reachable h → Reachable (accepted h c .after)
 unfolding accepted refusalOf
 accepted-reachable laws h c e r =
-    let p = cleared (h .context) (namesOf h c) c e in
+    let p = cleared (h .context) (namesOf (h .advertisements)) c e in
     record {
       listed = results-listed laws (h .context .seed) (acts c) (h .advertisements) (single c) (brings h c e) (r .listed);
-      linked = linked-after (h .context) (namesOf h c) c p (r .linked);
-      subscribed = subscribed-after (h .context) (namesOf h c) c p (r .subscribed);
+      linked = linked-after (h .context) (namesOf (h .advertisements)) c p (r .linked);
+      subscribed = subscribed-after (h .context) (namesOf (h .advertisements)) c p (r .subscribed);
     }
 
 unless-reachable : (k : ℕ) (h : Held) (s : Step) → (k ≡ 0 → Reachable (s .after)) → Reachable h → Reachable (unless k h s .after)

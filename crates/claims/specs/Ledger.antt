@@ -7,7 +7,6 @@ use mathlib.Core.Option.{Option, none, some}
 use lib.Dec.{leb, eqb}
 use lib.ListN.{length}
 use Rattle.text.specs.Bytes.{equal}
-use Rattle.engine.specs.Sizes.{outboxSize}
 use Rattle.engine.specs.Table.{Key, known, entryOf, enter, leave}
 use Rattle.engine.specs.RefreshTimer.{timerNew}
 use Rattle.engine.specs.Target.{ssdpAll, targetMatch}
@@ -16,6 +15,7 @@ use Rattle.engine.specs.Held.{Text, Context, byName}
 use Rattle.engine.specs.Calls.{Call, Query, Act, Enters, Leaves, Asks, Ticks, acts, Counts, zeros, plus}
 use Rattle.engine.specs.Links.{upAddresses, contextAfter}
 use Rattle.engine.specs.Records.{Record, NotifyFrom, ResponseFrom, flat, searchesOf, searchOn}
+use Rattle.engine.specs.Need.{Names}
 use Rattle.engine.specs.Refusals.{late, refusal}
 use Rattle.engine.specs.declared.advertisement.Endpoint.{Endpoint}
 
@@ -116,6 +116,10 @@ each f (n ∷ ns) = record { names = withWait n (f n .wait) ∷ each f ns .names
 abbrev pub dropping : ℕ → Counts
 dropping n = record { matched = 0; joined = 0; alone = 0; group = 0; dropped = n }
 
+-- a handle_timeout at every name
+abbrev pub ticked : ℕ → List Name → Acted
+ticked now ns = each (λ n. timedOut (dueAt now (n .wait)) (n .wait)) ns
+
 unfoldable pub acted : ℕ → List Name → Act → Acted
 acted seed ns (Enters name service location) = record {
   names = enter named (record { name = name; service = service; location = location; wait = none }) ns;
@@ -123,7 +127,7 @@ acted seed ns (Enters name service location) = record {
 }
 acted seed ns (Leaves name) = record { names = leave named name ns; adds = dropping (waitsIn (entryOf named name ns)) }
 acted seed ns (Asks q) = each (λ n. searched (targetMatch (q .target) (n .service)) seed q (n .service) (n .wait)) ns
-acted seed ns (Ticks now) = each (λ n. timedOut (dueAt now (n .wait)) (n .wait)) ns
+acted seed ns (Ticks now) = ticked now ns
 
 unfoldable pub actedAll : ℕ → List Name → List Act → Acted
 actedAll seed ns [] = record { names = ns; adds = zeros }
@@ -137,10 +141,18 @@ pub record Ledger : Type 0 where
   pub context : Context
   pub names : List Name
 
--- the number by which a call is turned away, 0 if it is accepted
+-- what refusals look at of the names: which are held, how many, and the waits that a handle_timeout at a time would end, alone and to the group
+unfoldable pub ledgerNames : List Name → Names
+ledgerNames ns = record {
+  holds = λ name. known named name ns;
+  count = length ns;
+  alone = λ now. ticked now ns .adds .alone;
+  group = λ now. ticked now ns .adds .group;
+}
+
+-- the number by which a call is turned away, 0 if it is accepted: from the ledger's own state, the room that a call needs included
 unfoldable pub refusalIn : Ledger → Call → ℕ
-refusalIn l c =
-    refusal (l .context) (record { holds = λ name. known named name (l .names); count = length (l .names); need = outboxSize }) c
+refusalIn l c = refusal (l .context) (ledgerNames (l .names)) c
 
 -- what a call leaves and adds; a refused one nothing
 pub record Entry : Type 0 where

@@ -4,7 +4,13 @@ ghost use mathlib.Core.Path.{_≡_};
 ghost use mathlib.Core.Bool.{true};
 ghost use mathlib.Core.List.{List};
 ghost use Rattle.message.specs.RoundTrip.{RoundTrip};
+ghost use lib.ListN.{length};
+ghost use Rattle.engine.specs.Held.{Held};
 ghost use Rattle.engine.specs.Calls.{Call};
+ghost use Rattle.engine.specs.Records.{records};
+ghost use Rattle.engine.specs.Layout.{layout};
+ghost use Rattle.engine.specs.Need.{recordCount};
+ghost use Rattle.engine.specs.Engine.{namesOf, needOf};
 ghost use Rattle.engine.specs.Arrays.{Engine};
 ghost use Rattle.claims.specs.Claim.{Log, Claim};
 ghost use Rattle.claims.specs.EveryList.{Word, Lent, Logged};
@@ -43,4 +49,9 @@ pub fn star_cases()
 // The round trip: what each of the four `build_*` writes, of any good texts, `parse` reads back to its kind and its fields (message/specs/RoundTrip.antt).
 pub fn round_trip()
     ensures { λ _. ⌜ RoundTrip ⌝ }
+{}
+
+// Document 02, change 1: the formula counts the records that a call sends, whatever is held, and the room that refusal 2 asks for is their bytes.
+pub fn records_counted()
+    ensures { λ _. ⌜ ((h : Held) (c : Call) → (recordCount (h .context) (namesOf (h .advertisements)) c ≡ length (records (h .context) (h .advertisements) c)) × (needOf h c ≡ length (layout (records (h .context) (h .advertisements) c)))) ⌝ }
 {}

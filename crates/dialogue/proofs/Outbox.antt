@@ -1,12 +1,12 @@
 -- Laws of records in the outbox as `trace` reads them.
 use mathlib.Core.Path.{_≡_, refl, sym, _∙_, ap}
 use mathlib.Core.List.{List, [], _++_, append-nil}
-use mathlib.Core.Bool.{Bool, true, _&&_, _||_}
+use mathlib.Core.Bool.{Bool, true, _&&_}
 use Prim.Native.Nat.{ℕ, suc, _+_, _*_, _-_, _/_, _≤_, _<_}
 use native.Mathlib.Omega.{arith}
 use native.Mathlib.Numerals.{add-one}
-use borrow.Author.Tests.{lt-ltb, le-ltb, le-leb}
-use lib.Dec.{eqb, leb}
+use borrow.Author.Tests.{lt-ltb, le-ltb}
+use lib.Dec.{eqb}
 use lib.ListN.{length, getD, take, drop, replicate, drop-of-length-le, length-drop}
 use lib.Seq.{take-all}
 use Rattle.console.specs.Each.{all}
@@ -53,16 +53,16 @@ padded-none outbox = refl
 pub padded-all : {b : Bool} (k n : ℕ) (outbox : List ℕ) → k ≡ n → b ≡ allPadded k outbox → b ≡ allPadded n outbox
 padded-all k n outbox e p = p ∙ ap (λ (x : ℕ). allPadded x outbox) e
 
--- a call that filled the outbox, and one that did not
-pub clean-full : (n : ℕ) (outbox : List ℕ) → length outbox / recordSize < n → true ≡ clean n outbox
+-- more records than there is room for, and others
+pub clean-over : (n : ℕ) (outbox : List ℕ) → length outbox / recordSize < n → true ≡ clean n outbox
 unfolding clean
-clean-full n outbox h = rw (le-leb (length outbox) (recordSize * n) (omega arith))
+clean-over n outbox h = rw (lt-ltb (length outbox / recordSize) n h)
 
-pub clean-rest : {b p : Bool} (n : ℕ) (outbox : List ℕ) → b ≡ all (eqb mark) (take (length outbox - recordSize * n) (drop (recordSize * n) outbox)) → p ≡ allPadded n outbox →
-    leb (length outbox) (recordSize * n) || (b && p) ≡ clean n outbox
+pub clean-rest : {b p : Bool} (n : ℕ) (outbox : List ℕ) → n ≤ length outbox / recordSize → b ≡ all (eqb mark) (take (length outbox - recordSize * n) (drop (recordSize * n) outbox)) →
+    p ≡ allPadded n outbox → b && p ≡ clean n outbox
 unfolding clean
-clean-rest {b} {p} n outbox q r =
+clean-rest {b} {p} n outbox h q r =
     let rest = drop (recordSize * n) outbox in
     let whole = take-all (length outbox - recordSize * n) rest (omega (arith, length-drop (recordSize * n) outbox)) in
-    ap (λ (x : Bool). leb (length outbox) (recordSize * n) || (x && p)) (q ∙ ap (all (eqb mark)) whole)
-    ∙ ap (λ (x : Bool). leb (length outbox) (recordSize * n) || (all (eqb mark) rest && x)) r
+    rw (le-ltb (length outbox / recordSize) n h)
+    (ap (λ (x : Bool). x && p) (q ∙ ap (all (eqb mark)) whole) ∙ ap (λ (x : Bool). all (eqb mark) rest && x) r)

@@ -105,7 +105,7 @@ fn are_padded(outbox: &[u8], n: usize) -> bool
     all
 }
 
-// Whether a call that wrote `n` records left the rest of the outbox alone, and each record's padding zero. An outbox that is full shows nothing.
+// Whether a call that wrote `n` records left the rest of the outbox alone, and each record's padding zero. More records than there is room for show nothing.
 pub fn is_clean(outbox: &[u8], n: usize) -> bool
     ensures { λ r. ⌜ r ≡ clean n (now (outbox .entry)) ⌝ }
 {
@@ -113,5 +113,5 @@ pub fn is_clean(outbox: &[u8], n: usize) -> bool
         return true;
     }
     let end = RECORD_SIZE * n;
-    (outbox.len() <= end) | (is_all(&outbox[end..], MARK) & are_padded(outbox, n))
+    is_all(&outbox[end..], MARK) & are_padded(outbox, n)
 }

@@ -19,7 +19,8 @@ use Rattle.engine.specs.Sizes.{advertisementsMax, locationMax}
 use Rattle.engine.specs.Table.{known}
 use Rattle.engine.specs.Held.{Text, Context, Held, Advertisement, advertised}
 use Rattle.engine.specs.Calls.{Call, NewLink, DeletedLink, NewAddress, DeletedAddress, Subscribe, Advertise, Deadvertise, Refresh, Datagram, Timeout, ResetTimer, Act, Enters, Leaves, Asks, Ticks, asks, acts}
-use Rattle.engine.specs.Refusals.{tableFull, Check, firstOf, Names, over, bad, searchChecks, checks, refusal}
+use Rattle.engine.specs.Need.{Names}
+use Rattle.engine.specs.Refusals.{tableFull, Check, firstOf, over, bad, searchChecks, checks, refusal}
 use Rattle.engine.specs.Engine.{namesOf, refusalOf}
 use Rattle.engine.specs.declared.advertisement.Endpoint.{Endpoint}
 use Rattle.engine.proofs.Members.{Each, nobody, both}
@@ -152,7 +153,7 @@ asks-bring as′ now sender receiver s (some (NotifyByeBye nt usn)) p = nobody
 asks-bring as′ now sender receiver s (some (Search st mx)) p = both (ltb-false typeMax (length (fieldAt s st)) (p .1 .0)) nobody
 asks-bring as′ now sender receiver s (some (Response st usn l)) p = nobody
 
-brings-at : (h : Held) (c : Call) → Passed (checks (h .context) (namesOf h c) c) → Each (Brings (h .advertisements)) (acts c)
+brings-at : (h : Held) (c : Call) → Passed (checks (h .context) (namesOf (h .advertisements)) c) → Each (Brings (h .advertisements)) (acts c)
 unfolding acts checks namesOf
 brings-at h (NewLink index flags outcome room) p = nobody
 brings-at h (DeletedLink index outcome) p = nobody
@@ -160,7 +161,7 @@ brings-at h (NewAddress index address room) p = nobody
 brings-at h (DeletedAddress index address) p = nobody
 brings-at h (Subscribe service room) p = nobody
 brings-at h (Advertise name service location room) p =
-    let k = by-number (checks (h .context) (namesOf h (Advertise name service location room)) (Advertise name service location room)) p in
+    let k = by-number (checks (h .context) (namesOf (h .advertisements)) (Advertise name service location room)) p in
     let t = three-fit nameMax typeMax locationMax name service location (k textOverSize) (k textNotGood) in
     both {a = Enters name service location} (t .0, t .1, t .2, k tableFull) nobody
 brings-at h (Deadvertise name room) p = both {a = Leaves name} tt nobody
@@ -171,4 +172,4 @@ brings-at h (ResetTimer now) p = nobody
 
 pub brings : (h : Held) (c : Call) → refusalOf h c ≡ 0 → Each (Brings (h .advertisements)) (acts c)
 unfolding refusalOf
-brings h c e = brings-at h c (passed (h .context) (namesOf h c) c e)
+brings h c e = brings-at h c (passed (h .context) (namesOf (h .advertisements)) c e)

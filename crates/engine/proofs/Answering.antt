@@ -1,19 +1,19 @@
 -- How a call's parts make what it promises: a refused call, and an accepted one.
-use mathlib.Core.Path.{_≡_, refl, sym, ap, subst}
+use mathlib.Core.Path.{_≡_, refl, sym, _∙_, ap, subst}
 use mathlib.Core.Bool.{Bool, true, false, cond}
 use mathlib.Core.List.{List, [], _∷_, append-nil}
 use Prim.Native.Nat.{ℕ, zero, suc, _≤_, _<_}
-use borrow.Author.Tests.{ltb-true, ltb-false}
+use borrow.Author.Tests.{ltb-true, ltb-false, lt-ltb, le-ltb}
 use lib.Dec.{ltb}
 use native.Mathlib.Omega.{arith}
 use native.Mathlib.Nat.{add-zero}
 use Rattle.engine.specs.Sizes.{timeMax}
 use Rattle.engine.specs.Held.{Held, fresh}
-use Rattle.engine.specs.Calls.{Call, Counts, zeros, plus}
-use Rattle.engine.specs.Refusals.{newRefusal}
+use Rattle.engine.specs.Calls.{Call, Timeout, Counts, zeros, plus}
+use Rattle.engine.specs.Refusals.{outboxShort, checks, refusal, newRefusal}
 use Rattle.engine.specs.Records.{Record, flat}
 use Rattle.engine.specs.Layout.{layout, written, Sent}
-use Rattle.engine.specs.Engine.{refusalOf, Step, step, accepted, refusedBy, unless, newStep}
+use Rattle.engine.specs.Engine.{needOf, refusalOf, Step, step, accepted, refusedBy, unless, newStep}
 
 -- no record leaves the outbox as it is
 pub written-none : (outbox : List ℕ) → written [] outbox ≡ outbox
@@ -44,6 +44,33 @@ in-time time h = late-or-not (ltb timeMax time) time refl .0 h
 pub too-late : (time : ℕ) → (newRefusal time ≡ 0 → ⊥) → timeMax < time
 unfolding newRefusal
 too-late time h = late-or-not (ltb timeMax time) time refl .1 h
+
+-- ---- handle_timeout: a time that is late refuses it; else the room, if that is short
+module _ (h : Held) (time room : ℕ) where
+  abbrev bytes : ℕ
+  bytes = needOf h (Timeout time room)
+
+  pub late-timeout : (newRefusal time ≡ 0 → ⊥) → refusalOf h (Timeout time room) ≡ newRefusal time
+  unfolding newRefusal refusalOf refusal checks
+  late-timeout n = go (ltb timeMax time) (ltb room bytes) n
+    where
+      go : (l s : Bool) → (_≡_ {A = ℕ} (cond l 1 0) 0 → ⊥) → _≡_ {A = ℕ} (cond l 1 (cond s 2 0)) (cond l 1 0)
+      go true s n = refl
+      go false s n = absurd (n refl)
+
+  timely : newRefusal time ≡ 0 → refusalOf h (Timeout time room) ≡ cond (ltb room bytes) outboxShort 0
+  unfolding newRefusal refusalOf refusal checks
+  timely e = go (ltb timeMax time) (ltb room bytes) e
+    where
+      go : (l s : Bool) → _≡_ {A = ℕ} (cond l 1 0) 0 → _≡_ {A = ℕ} (cond l 1 (cond s 2 0)) (cond s 2 0)
+      go true s e = absurd (omega arith)
+      go false s e = refl
+
+  pub short-timeout : newRefusal time ≡ 0 → room < bytes → refusalOf h (Timeout time room) ≡ outboxShort
+  short-timeout e k = timely e ∙ ap (λ (b : Bool). cond b outboxShort 0) (lt-ltb room bytes k)
+
+  pub roomy-timeout : newRefusal time ≡ 0 → bytes ≤ room → refusalOf h (Timeout time room) ≡ 0
+  roomy-timeout e k = timely e ∙ ap (λ (b : Bool). cond b outboxShort 0) (le-ltb room bytes k)
 
 pub new-refused : (k seed time : ℕ) → (k ≡ 0 → ⊥) → newStep k seed time ≡ refusedBy k (fresh seed 0)
 new-refused zero seed time n = absurd (n refl)

@@ -8,14 +8,15 @@ use native.Mathlib.Omega.{arith}
 use borrow.Author.Tests.{ltb-false}
 use lib.Dec.{ltb}
 use lib.ListN.{length, take, drop, getD, length-append, length-map, length-take}
-use Rattle.engine.specs.Sizes.{advertisementsMax, subscriptionsMax, linksMax, addressesMax, sourcesMax, recordsMax, outboxSize}
+use Rattle.engine.specs.Sizes.{advertisementsMax, subscriptionsMax, linksMax, addressesMax, sourcesMax, recordsMax}
 use Rattle.engine.specs.Table.{entryOf}
 use Rattle.engine.specs.Held.{Text, Link, Context, Advertisement, advertised, byIndex}
 use Rattle.engine.specs.Calls.{Call, NewLink, DeletedLink, NewAddress, DeletedAddress, Subscribe, Advertise, Deadvertise, Refresh, Datagram, Timeout, ResetTimer}
 use Rattle.engine.specs.Links.{addressesOf, anyUp, upAddresses, addressOf, linkAt, stores}
 use Rattle.engine.specs.Records.{Record, SearchFrom, NotifyFrom, flat, byebyeOn, allFrom, refreshRecords, addressRecords, salvoDue, turnsUp, records}
 use Rattle.engine.specs.Layout.{Room}
-use Rattle.engine.specs.Engine.{need}
+use Rattle.engine.specs.Need.{need}
+use Rattle.engine.specs.Engine.{namesOf}
 use Rattle.engine.specs.Rows.{rows}
 use Rattle.engine.specs.Arrays.{low32, firstAddress, linkWidth, linkIn, linkRows, linkCount, linksIn, Engine, held}
 use Rattle.engine.proofs.Members.{Each, nobody, both}
@@ -24,6 +25,7 @@ use Rattle.engine.proofs.TableRows.{lines-length}
 use Rattle.engine.proofs.NameRows.{names-length}
 use Rattle.engine.proofs.TableRuns.{searches-length}
 use Rattle.engine.proofs.Counting.{cond-most, all-most, turn-most, refresh-most, timeout-most}
+use Rattle.engine.proofs.RecordCount.{need-is}
 
 -- tables within their sizes
 pub record Few (x : Context) (as′ : List Advertisement) : Type 0 where
@@ -111,8 +113,12 @@ held-few t = record {
   addresses = links-few (linkCount (t .head)) (t .links);
 }
 
+-- a link that is looked for, in the arrays
+pub found-few : (head links : List ℕ) (index : ℕ) → length (addressesOf (linkAt index (linksIn head links))) ≤ addressesMax
+unfolding linksIn
+found-few head links index = at-few index (linksIn head links) (links-few (linkCount head) links)
+
 -- ---- the outbox of an accepted call has room for its records
-pub enough : (t : Engine) (c : Call) (outbox : List ℕ) {rs : List Record} → ltb (length outbox) (need (held t .context) (held t .advertisements) c) ≡ false →
+pub enough : (t : Engine) (c : Call) (outbox : List ℕ) {rs : List Record} → ltb (length outbox) (need (held t .context) (namesOf (held t .advertisements)) c) ≡ false →
     rs ≡ records (held t .context) (held t .advertisements) c → Room outbox 0 rs
-enough t c outbox e p =
-    omega (arith, ltb-false (length outbox) outboxSize e, records-bound (held t .context) (held t .advertisements) (held-few t) c, ap length p)
+enough t c outbox e p = omega (arith, ltb-false (length outbox) (need (held t .context) (namesOf (held t .advertisements)) c) e, need-is (held t .context) (held t .advertisements) c, ap length p)

@@ -21,7 +21,8 @@ use Rattle.engine.specs.Reading.{Subject, Asking, Notice, subjectOf, pla
 use Rattle.engine.specs.declared.advertisement.Endpoint.{Endpoint}
 use Rattle.engine.specs.Held.{Text, Context}
 use Rattle.engine.specs.Calls.{Datagram, asksAbout, asks}
-use Rattle.engine.specs.Refusals.{Names, checks, refusal, subjectChecks, searchChecks}
+use Rattle.engine.specs.Need.{Names}
+use Rattle.engine.specs.Refusals.{checks, refusal, subjectChecks, searchChecks}
 use Rattle.engine.specs.Engine.{notifiesBy, notifiesOf, notifiesAbout}
 
 -- the numbers of the answers of `parse` that hold no message, and of the messages that are no search

@@ -24,6 +24,7 @@ pub mod OneRecord
 pub mod Runs
 pub mod Announcing
 pub mod Counting
+pub mod RecordCount
 pub mod Copies
 pub mod TableRows
 pub mod Moves

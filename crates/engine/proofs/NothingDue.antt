@@ -6,14 +6,17 @@ use Prim.Native.Nat.{ℕ, min, _+_, _≤_, _<_}
 use native.Mathlib.Omega.{arith}
 use borrow.Author.Tests.{lt-leb, lt-ltb}
 use lib.Dec.{leb}
+use lib.ListN.{length}
 use Rattle.engine.specs.RefreshTimer.{timerStep}
 use Rattle.engine.specs.Held.{Held, Advertisement}
 use Rattle.engine.specs.Calls.{Timeout, acts, zeros}
 use Rattle.engine.specs.Links.{upAddresses, contextAfter}
 use Rattle.engine.specs.Layout.{Sent}
 use Rattle.engine.specs.Outcomes.{sends}
-use Rattle.engine.specs.Engine.{poll}
-use Rattle.engine.proofs.Answering.{plus-zeros, sent-as, sent-nothing, not-chosen}
+use Rattle.engine.specs.Refusals.{newRefusal}
+use Rattle.engine.specs.Engine.{refusalOf, poll}
+use Rattle.engine.proofs.Answering.{plus-zeros, sent-as, sent-nothing, not-chosen, roomy-timeout}
+use Rattle.engine.proofs.RecordCount.{need-is}
 use Rattle.engine.proofs.Lending.{Done}
 use Rattle.engine.specs.Records.{flat, isDue, replyRecords, dueRecords, refreshRecords, records}
 use Rattle.engine.specs.Replies.{sumOf, sooner, soonest, servedNeed, served, isAlone, isGroup, aloneAt, groupAt, result, results}
@@ -85,11 +88,18 @@ idle-counts h time room e =
     let salvo = h .context .timer .«next_salvo» in
     (λ j. sends (sym (none-alone time salvo (h .advertisements) e) j) (sym (none-group time salvo (h .advertisements) e) j)) ∙ sym (plus-zeros _)
 
-pub idle-sent : (h : Held) (time room : ℕ) (outbox : List ℕ) → time < poll h → Sent (records (h .context) (h .advertisements) (Timeout time room)) outbox outbox 0
+idle-records : (h : Held) (time room : ℕ) → time < poll h → records (h .context) (h .advertisements) (Timeout time room) ≡ []
 unfolding poll records
-idle-sent h time room outbox e =
+idle-records h time room e =
     let salvo = h .context .timer .«next_salvo» in
     let up = upAddresses (h .context .links) in
     let rs = refreshRecords (h .context) (h .advertisements) in
-    sent-as (sent-nothing outbox)
-    (sym (ap₂ _++_ (not-chosen rs (lt-leb salvo time (soonest-most time salvo (h .advertisements) e))) (no-records time up salvo (h .advertisements) e)))
+    ap₂ _++_ (not-chosen rs (lt-leb salvo time (soonest-most time salvo (h .advertisements) e))) (no-records time up salvo (h .advertisements) e)
+
+pub idle-sent : (h : Held) (time room : ℕ) (outbox : List ℕ) → time < poll h → Sent (records (h .context) (h .advertisements) (Timeout time room)) outbox outbox 0
+idle-sent h time room outbox e = sent-as (sent-nothing outbox) (sym (idle-records h time room e))
+
+-- so that it needs no room
+pub idle-accepted : (h : Held) (time room : ℕ) → newRefusal time ≡ 0 → time < poll h → refusalOf h (Timeout time room) ≡ 0
+idle-accepted h time room k e =
+    roomy-timeout h time room k (omega (arith, need-is (h .context) (h .advertisements) (Timeout time room), ap length (idle-records h time room e)))

@@ -57,6 +57,33 @@ module _ (time : ℕ) (head ns ts : List ℕ) where
       let z = none-left head ns ts i h in
       (sum-over (λ a. waits (a .needed)) (namesIn head ns ts) z (g .many), soonest-over z (g .soon))
 
+-- ---- the replies that are due: how many there are of the entries so far, to lone searchers and to the group
+pub record Due (time : ℕ) (l : List Advertisement) (i alone group : ℕ) : Type 0 where
+  pub first : Summing (aloneAt time) l i (drop i l) alone
+  pub second : Summing (groupAt time) l i (drop i l) group
+
+pub due-start : (time : ℕ) (l : List Advertisement) → Due time l 0 0 0
+due-start time l = record { first = sum-start (aloneAt time) l; second = sum-start (groupAt time) l }
+
+module _ (time : ℕ) (head ns ts : List ℕ) where
+  pub due-turn : {i alone group x y : ℕ} {n : ResponseNeeded} → i < nameCount head → n ≡ replyAt i ns
+      → (x ≡ cond (isDue time n) (isAlone n) 0) × (x ≤ 1) → (y ≡ cond (isDue time n) (isGroup n) 0) × (y ≤ 1)
+      → Due time (namesIn head ns ts) i alone group → Due time (namesIn head ns ts) (i + 1) (alone + x) (group + y)
+  unfolding aloneAt groupAt
+  due-turn {i} h e x y g =
+      let n = next-is head ns ts i h in
+      let d = needed-is i ns ts e in
+      record {
+        first = sum-turn (aloneAt time) (namesIn head ns ts) n (x .0 ∙ ap (λ (r : ResponseNeeded). cond (isDue time r) (isAlone r) 0) d, x .1) (g .first);
+        second = sum-turn (groupAt time) (namesIn head ns ts) n (y .0 ∙ ap (λ (r : ResponseNeeded). cond (isDue time r) (isGroup r) 0) d, y .1) (g .second);
+      }
+
+  pub due-over : {i alone group : ℕ} → nameCount head ≤ i → Due time (namesIn head ns ts) i alone group
+      → (alone ≡ sumOf (aloneAt time) (namesIn head ns ts)) × (group ≡ sumOf (groupAt time) (namesIn head ns ts))
+  due-over {i} h g =
+      let z = none-left head ns ts i h in
+      (sum-over (aloneAt time) (namesIn head ns ts) z (g .first), sum-over (groupAt time) (namesIn head ns ts) z (g .second))
+
 -- ---- a pass over a list in place: the entries before the i-th are replaced and counted, and the others are as they came
 module _ {A : Type 0} (f : A → A) (g h : A → ℕ) (d : A) (l : List A) where
   abbrev passed : ℕ → List A

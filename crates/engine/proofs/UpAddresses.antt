@@ -1,11 +1,11 @@
--- The addresses that messages go out from, gathered link by link: `out` are those so far, `rest` the links that are left.
+-- The addresses that messages go out from, gathered or counted link by link: `out` are those so far, `count` how many, `rest` the links that are left.
 use mathlib.Core.Path.{_≡_, sym, _∙_, ap}
 use mathlib.Core.Bool.{cond}
 use mathlib.Core.List.{List, [], _∷_, _++_, append-assoc, append-nil}
 use Prim.Native.Nat.{ℕ, _+_, _*_, _≤_}
 use native.Mathlib.Omega.{arith}
-use lib.ListN.{take}
-use Rattle.engine.specs.Sizes.{linksMax, addressesMax}
+use lib.ListN.{length, take, length-append}
+use Rattle.engine.specs.Sizes.{linksMax, addressesMax, sourcesMax}
 use Rattle.engine.specs.Held.{Link}
 use Rattle.engine.specs.Links.{upAddresses}
 use Rattle.engine.specs.Addresses.{SourcesOf}
@@ -42,3 +42,26 @@ module _ (ls : List Link) where
         ∙ g .done;
     few = omega (arith, g .few);
   }
+
+-- ---- the same loop, counting
+module _ (ls : List Link) where
+  pub record Counting (i : ℕ) (rest : List Link) (count : ℕ) : Type 0 where
+    pub done : count + length (upAddresses rest) ≡ length (upAddresses ls)
+    pub few : count ≤ addressesMax * i
+
+  pub count-start : Counting 0 ls 0
+  count-start = record { done = omega arith; few = omega arith }
+
+  pub count-turn : {i : ℕ} {rest more : List Link} {a : Link} {count x : ℕ} → rest ≡ a ∷ more → (x ≡ length (cond (a .up) (a .addresses) [])) × (x ≤ addressesMax)
+      → Counting i rest count → Counting (i + 1) more (count + x)
+  unfolding upAddresses
+  count-turn {rest = rest} {more = more} {a = a} e s g =
+      let here : length (upAddresses rest) ≡ length (cond (a .up) (a .addresses) []) + length (upAddresses more) =
+      ap (λ (t : List Link). length (upAddresses t)) e ∙ length-append (cond (a .up) (a .addresses) []) (upAddresses more) in
+      record { done = omega (arith, g .done, s .0); few = omega (arith, g .few, s .1) }
+
+  pub count-over : {i : ℕ} {rest : List Link} {count : ℕ} → rest ≡ [] → i ≤ linksMax → Counting i rest count → (count ≡ length (upAddresses ls)) × (count ≤ sourcesMax)
+  unfolding upAddresses
+  count-over {rest = rest} e h g =
+      let none : length (upAddresses rest) ≡ 0 = ap (λ (t : List Link). length (upAddresses t)) e in
+      (omega (arith, g .done), omega (arith, g .few))

@@ -7,31 +7,32 @@ use lib.ListN.{length}
 use Rattle.message.specs.Parse.{parsed, fieldAt}
 use Rattle.message.specs.declared.Message.{Message}
 use Rattle.engine.specs.Reading.{Subject, Asking, Notice, subjectOf}
-use Rattle.engine.specs.Sizes.{outboxSize}
 use Rattle.engine.specs.Table.{known}
 use Rattle.engine.specs.Target.{targetMatch}
 use Rattle.engine.specs.Held.{Text, Context, Held, Advertisement, fresh, advertised, byIndex}
 use Rattle.engine.specs.Calls.{Call, NewLink, DeletedLink, NewAddress, DeletedAddress, Subscribe, Advertise, Deadvertise, Refresh, Datagram, Timeout, ResetTimer, Counts, zeros, acts}
 use Rattle.engine.specs.Links.{contextAfter}
 use Rattle.engine.specs.Records.{Record, records}
-use Rattle.engine.specs.Replies.{one, waiting, soonest, results}
-use Rattle.engine.specs.Refusals.{Names, refusal}
+use Rattle.engine.specs.Replies.{sumOf, one, waiting, soonest, aloneAt, groupAt, results}
+use Rattle.engine.specs.Need.{Names, need}
+use Rattle.engine.specs.Refusals.{refusal}
 use Rattle.engine.specs.declared.answer.Answer.{Answer}
 
--- the room that refusal 2 asks for (02, change 1: that of the records which this call would write)
-abbrev pub need : Context → List Advertisement → Call → ℕ
-need x as′ c = outboxSize
-
-unfoldable pub namesOf : Held → Call → Names
-namesOf h c = record {
-  holds = λ name. known advertised name (h .advertisements);
-  count = length (h .advertisements);
-  need = need (h .context) (h .advertisements) c;
+-- what refusals look at of the names; the replies due are those that a handle_timeout counts
+unfoldable pub namesOf : List Advertisement → Names
+namesOf as′ = record {
+  holds = λ name. known advertised name as′;
+  count = length as′;
+  alone = λ time. sumOf (aloneAt time) as′;
+  group = λ time. sumOf (groupAt time) as′;
 }
 
--- the refusal of a call on what is held
+-- the room that a call needs, and its refusal, on what is held
+abbrev pub needOf : Held → Call → ℕ
+needOf h c = need (h .context) (namesOf (h .advertisements)) c
+
 unfoldable pub refusalOf : Held → Call → ℕ
-refusalOf h c = refusal (h .context) (namesOf h c) c
+refusalOf h c = refusal (h .context) (namesOf (h .advertisements)) c
 
 -- poll: the least of the salvo instant and every wait's
 unfoldable pub poll : Held → ℕ

@@ -19,6 +19,7 @@ pub mod Layout
 pub mod Replies
 pub mod Passes
 pub mod Reading
+pub mod Need
 pub mod Refusals
 pub mod Engine
 pub mod Outcomes

@@ -17,13 +17,14 @@ use Rattle.engine.specs.Flags.{isMulticast}
 use Rattle.engine.specs.Held.{Text, Link, Context, byIndex}
 use Rattle.engine.specs.Calls.{Call, NewLink, DeletedLink, NewAddress, DeletedAddress, Subscribe, Advertise, Deadvertise, Refresh, Datagram, Timeout, ResetTimer}
 use Rattle.engine.specs.Links.{addressesOf, linkAt, stores, isV4, isV6}
+use Rattle.engine.specs.Need.{Names, need}
 
 -- ---- document 01's numbers; 3, 4 and 6 to 8 are the message crate's
 -- time above 2^63 − 1
 abbrev pub timeLate : ℕ
 timeLate = 1
 
--- outbox under 62,880 bytes
+-- outbox under the bytes of the records that the call would write (Need, `need`)
 abbrev pub outboxShort : ℕ
 outboxShort = 2
 
@@ -69,12 +70,6 @@ abbrev pub firstOf : List Check → ℕ
 firstOf [] = 0
 firstOf (c ∷ cs) = cond (c .fails) (c .number) (firstOf cs)
 
--- what refusals look at of the names: which are held, how many, and the room that a sending call needs
-pub record Names : Type 0 where
-  pub holds : Text → Bool
-  pub count : ℕ
-  pub need : ℕ
-
 abbrev pub late : ℕ → Bool
 late time = ltb timeMax time
 
@@ -83,6 +78,10 @@ over max t = ltb max (length t)
 
 abbrev pub bad : Text → Bool
 bad t = not (goodText t)
+
+-- the last check of a call that sends
+abbrev pub short : ℕ → ℕ → List Check
+short room bytes = ltb room bytes refuses outboxShort ∷ []
 
 abbrev pub newMulticast : ℕ → ℕ → List Link → Bool
 newMulticast index flags ls = isMulticast flags && not (known byIndex index ls)
@@ -98,36 +97,32 @@ searchChecks s (some m) = subjectChecks s (subjectOf m)
 
 unfoldable pub checks : Context → Names → Call → List Check
 checks x n (NewLink index flags outcome room) =
-    ltb room (n .need) refuses outboxShort
-    ∷ eqb index 0 refuses indexZero
+    eqb index 0 refuses indexZero
     ∷ (newMulticast index flags (x .links) && leb linksMax (length (x .links))) refuses linksFull
     ∷ (newMulticast index flags (x .links) && not (eqb outcome 0)) refuses joinFailed
-    ∷ []
+    ∷ short room (need x n (NewLink index flags outcome room))
 checks x n (DeletedLink index outcome) = eqb index 0 refuses indexZero ∷ []
 checks x n (NewAddress index address room) =
-    ltb room (n .need) refuses outboxShort
-    ∷ eqb index 0 refuses indexZero
+    eqb index 0 refuses indexZero
     ∷ not (isV4 address || isV6 address) refuses addressLength
     ∷ (stores index address (x .links) && leb addressesMax (length (addressesOf (linkAt index (x .links))))) refuses linksFull
-    ∷ []
+    ∷ short room (need x n (NewAddress index address room))
 checks x n (DeletedAddress index address) = eqb index 0 refuses indexZero ∷ not (isV4 address || isV6 address) refuses addressLength ∷ []
 checks x n (Subscribe service room) =
-    ltb room (n .need) refuses outboxShort
-    ∷ over typeMax service refuses textOverSize
+    over typeMax service refuses textOverSize
     ∷ bad service refuses textNotGood
     ∷ leb subscriptionsMax (length (x .subscriptions)) refuses tableFull
-    ∷ []
+    ∷ short room (need x n (Subscribe service room))
 checks x n (Advertise name service location room) =
-    ltb room (n .need) refuses outboxShort
-    ∷ (over nameMax name || over typeMax service || over locationMax location) refuses textOverSize
+    (over nameMax name || over typeMax service || over locationMax location) refuses textOverSize
     ∷ (bad name || bad service || bad location) refuses textNotGood
     ∷ (not (n .holds name) && leb advertisementsMax (n .count)) refuses tableFull
-    ∷ []
-checks x n (Deadvertise name room) = ltb room (n .need) refuses outboxShort ∷ []
-checks x n (Refresh room) = ltb room (n .need) refuses outboxShort ∷ []
+    ∷ short room (need x n (Advertise name service location room))
+checks x n (Deadvertise name room) = short room (need x n (Deadvertise name room))
+checks x n (Refresh room) = short room (need x n (Refresh room))
 checks x n (Datagram time sender receiver s) =
     late time refuses timeLate ∷ not (eqb (parsed s .refusal) 0) refuses (parsed s .refusal) ∷ searchChecks s (parsed s .message)
-checks x n (Timeout time room) = late time refuses timeLate ∷ ltb room (n .need) refuses outboxShort ∷ []
+checks x n (Timeout time room) = late time refuses timeLate ∷ short room (need x n (Timeout time room))
 checks x n (ResetTimer time) = late time refuses timeLate ∷ []
 
 unfoldable pub refusal : Context → Names → Call → ℕ

@@ -19,6 +19,7 @@ use crate::head::set_timer;
 use crate::head::timer_in;
 use crate::links;
 use crate::names;
+use crate::need;
 use crate::news;
 use crate::pending::searched;
 use crate::pending::serve_all;
@@ -33,7 +34,6 @@ use crate::sizes::LINK_COUNT;
 use crate::sizes::Links;
 use crate::sizes::NAME_COUNT;
 use crate::sizes::Numbers;
-use crate::sizes::OUTBOX_SIZE;
 use crate::sizes::SEARCH_COUNT;
 use crate::sizes::Searches;
 use crate::sizes::TIME_MAX;
@@ -63,7 +63,7 @@ ghost use Rattle.engine.specs.Layout.{Room, Sent};
 ghost use Rattle.engine.specs.Replies.{waits, newcomer};
 ghost use Rattle.engine.specs.Reading.{isNotice};
 ghost use Rattle.engine.specs.Calls.{NewLink, DeletedLink, NewAddress, DeletedAddress, Subscribe, Advertise, Deadvertise, Refresh, Datagram, Timeout, ResetTimer};
-ghost use Rattle.engine.specs.Engine.{refusedBy, answerWith};
+ghost use Rattle.engine.specs.Engine.{refusalOf, refusedBy, answerWith};
 ghost use Rattle.engine.specs.Outcomes.{counted, notifiedBy};
 ghost use Rattle.engine.specs.Arrays.{headPlaces, numbersSize, linksIn, entryAt, replyAt, nameCount, namesIn, LinkArrays, SearchArrays, NameArrays, engine, held};
 ghost use Rattle.engine.specs.Changes.{NamesAfter};
@@ -158,7 +158,8 @@ pub fn refresh(
 ) -> Answer
     ensures { λ r. ⌜ Answers (engine (now (head .entry)) (now (links .entry)) (now (searches .entry)) (now (numbers .entry)) (now (texts .entry))) (Refresh (length (now (outbox .entry)))) (now (outbox .entry)) (now (outbox .exit)) (answered (engine (now (head .entry)) (now (links .entry)) (now (searches .entry)) (now (numbers .entry)) (now (texts .entry))) r) ⌝ }
 {
-    let number = refusals::of_room(outbox.len() < OUTBOX_SIZE);
+    let need = need::of_refresh(head, links, searches);
+    let number = refusals::of_room(outbox.len() < need);
     if number != 0 {
         return refused(head, numbers, number);
     }
@@ -181,7 +182,8 @@ pub fn subscribe(
     ensures { λ r. ⌜ ((texts : List ℕ) → Answers (engine (now (head .entry)) (now (links .entry)) (now (searches .entry)) (now (numbers .entry)) texts) (Subscribe (now (service .entry)) (length (now (outbox .entry)))) (now (outbox .entry)) (now (outbox .exit)) (answered (engine (now (head .exit)) (now (links .entry)) (now (searches .exit)) (now (numbers .entry)) texts) r)) ⌝ }
 {
     let n = subscription::count_of(head);
-    let number = refusals::of_subscribe(n, outbox.len() < OUTBOX_SIZE, service);
+    let need = need::of_announcement(head, links);
+    let number = refusals::of_subscribe(n, outbox.len() < need, service);
     if number != 0 {
         return refused(head, numbers, number);
     }
@@ -251,7 +253,7 @@ pub fn new_link(
     let held = links::lookup(head, links, index);
     let multicast = Flags(flags).is_multicast();
     let count = links::count_of(head);
-    let short = outbox.len() < OUTBOX_SIZE;
+    let short = outbox.len() < need::of_new_link(head, links, searches, index, flags);
     let number = refusals::of_new_link(multicast, held.known, count, index, outcome, short);
     if number != 0 {
         return refused(head, numbers, number);
@@ -291,7 +293,7 @@ pub fn new_address(
     let link = held.link;
     let storing = news::is_stored(held, address);
     let count = address::count_of(link);
-    let short = outbox.len() < OUTBOX_SIZE;
+    let short = outbox.len() < need::of_new_address(head, links, searches, index, address);
     let number = refusals::of_new_address(storing, count, index, address, short);
     if number != 0 {
         return refused(head, numbers, number);
@@ -361,7 +363,7 @@ pub fn advertise(
 {
     let spot = names::spot_of(head, numbers, texts, name);
     let count = names::count_of(head);
-    let short = outbox.len() < OUTBOX_SIZE;
+    let short = outbox.len() < need::of_announcement(head, links);
     let number = refusals::of_advertise(spot.known, count, short, name, service, location);
     if number != 0 {
         return refused(head, numbers, number);
@@ -421,11 +423,12 @@ pub fn deadvertise(
 ) -> Answer
     ensures { λ r. ⌜ ((searches : List ℕ) → Answers (engine (now (head .entry)) (now (links .entry)) searches (now (numbers .entry)) (now (texts .entry))) (Deadvertise (now (name .entry)) (length (now (outbox .entry)))) (now (outbox .entry)) (now (outbox .exit)) (answered (engine (now (head .exit)) (now (links .entry)) searches (now (numbers .exit)) (now (texts .exit))) r)) ⌝ }
 {
-    let number = refusals::of_room(outbox.len() < OUTBOX_SIZE);
+    let spot = names::spot_of(head, numbers, texts, name);
+    let need = need::of_byebye(head, links, spot.known);
+    let number = refusals::of_room(outbox.len() < need);
     if number != 0 {
         return refused(head, numbers, number);
     }
-    let spot = names::spot_of(head, numbers, texts, name);
     let k = byebye_if(outbox, head, links, numbers, texts, spot);
     let dropped = dropped_at(numbers, spot);
     let n = leave(head, numbers, texts, spot);
@@ -433,9 +436,8 @@ pub fn deadvertise(
     accepted(head, numbers, k, dropping(dropped))
 }
 
-// The owner's timer has come: sends the refresh records, if the salvo is due, and the replies that are due. Called early, or without need, it does nothing; called late, it
-// sends what has become due meanwhile, one salvo at most, and `poll` says when the next is due, which may be at once. A clock that went back does no harm.
-pub fn handle_timeout(
+// Sends what is due, and ends it, in an outbox that has room for it: the accepted part of `handle_timeout`.
+fn serve_due(
     head: &mut Head,
     links: &Links,
     searches: &Searches,
@@ -444,16 +446,9 @@ pub fn handle_timeout(
     time: u64,
     outbox: &mut [u8],
 ) -> Answer
+    requires { ⌜ refusalOf (held (engine (now head) (now links) (now searches) (now numbers) (now texts))) (Timeout time (length (now outbox))) ≡ 0 ⌝ }
     ensures { λ r. ⌜ Answers (engine (now (head .entry)) (now (links .entry)) (now (searches .entry)) (now (numbers .entry)) (now (texts .entry))) (Timeout time (length (now (outbox .entry)))) (now (outbox .entry)) (now (outbox .exit)) (answered (engine (now (head .exit)) (now (links .entry)) (now (searches .entry)) (now (numbers .exit)) (now (texts .entry))) r) ⌝ }
 {
-    let number = refusals::of_timeout(time, outbox.len() < OUTBOX_SIZE);
-    if number != 0 {
-        return refused(head, numbers, number);
-    }
-    let idle = accepted(head, numbers, 0, nothing());
-    if time < idle.poll {
-        return idle;
-    }
     let up = of_up_links(head, links);
     let from = up.addresses;
     let timer = timer_in(head);
@@ -472,6 +467,34 @@ pub fn handle_timeout(
     let served = serve_all(head, numbers, time);
     set_timer(head, rolled(timer, time));
     accepted(head, numbers, k, sending(served.alone, served.group))
+}
+
+// The owner's timer has come: sends the refresh records, if the salvo is due, and the replies that are due. Called early, or without need, it does nothing; called late, it
+// sends what has become due meanwhile, one salvo at most, and `poll` says when the next is due, which may be at once. A clock that went back does no harm.
+pub fn handle_timeout(
+    head: &mut Head,
+    links: &Links,
+    searches: &Searches,
+    numbers: &mut Numbers,
+    texts: &Texts,
+    time: u64,
+    outbox: &mut [u8],
+) -> Answer
+    ensures { λ r. ⌜ Answers (engine (now (head .entry)) (now (links .entry)) (now (searches .entry)) (now (numbers .entry)) (now (texts .entry))) (Timeout time (length (now (outbox .entry)))) (now (outbox .entry)) (now (outbox .exit)) (answered (engine (now (head .exit)) (now (links .entry)) (now (searches .entry)) (now (numbers .exit)) (now (texts .entry))) r) ⌝ }
+{
+    let number = refusals::of_time(time);
+    if number != 0 {
+        return refused(head, numbers, number);
+    }
+    let idle = accepted(head, numbers, 0, nothing());
+    if time < idle.poll {
+        return idle;
+    }
+    let need = need::of_timeout(head, links, searches, numbers, time);
+    if outbox.len() < need {
+        return refused(head, numbers, refusals::OUTBOX_SHORT);
+    }
+    serve_due(head, links, searches, numbers, texts, time, outbox)
 }
 
 // A search: it opens, joins or shares the waiting replies of the names that it matches.

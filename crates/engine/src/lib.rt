@@ -15,6 +15,7 @@ mod interface;
 mod links;
 mod location;
 mod names;
+pub mod need;
 mod news;
 mod outbox;
 mod pending;

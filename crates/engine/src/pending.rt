@@ -31,7 +31,8 @@ ghost use Rattle.message.specs.Build.{typeMax};
 ghost use Rattle.engine.specs.Sizes.{advertisementsMax, timeMax};
 ghost use Rattle.engine.specs.Target.{ssdpAll, targetMatch};
 ghost use Rattle.engine.specs.Wanted.{wantedOf};
-ghost use Rattle.engine.specs.Replies.{asked, matchedBy, joinedBy, served, aloneAt, groupAt, waiting, soonest};
+ghost use Rattle.engine.specs.Records.{isDue};
+ghost use Rattle.engine.specs.Replies.{sumOf, asked, matchedBy, joinedBy, served, isAlone, isGroup, aloneAt, groupAt, waiting, soonest};
 ghost use Rattle.engine.specs.Passes.{askedBy};
 ghost use Rattle.engine.specs.Arrays.{headPlaces, numbersSize, entryAt, entries, namesIn, NameArrays};
 ghost use Rattle.engine.specs.Changes.{changeAt, blank, withActive, PassOne, PassAll, Opening, AskedBy};
@@ -225,6 +226,42 @@ pub(crate) fn searched(
 pub struct Served {
     pub alone: usize,
     pub group: usize,
+}
+
+// Whether a reply waits that is due, to a lone searcher or to the group: 1, or 0.
+fn due_of(needed: ResponseNeeded, time: u64) -> Served
+    ensures { λ r. ⌜ ((r .alone ≡ cond (isDue time needed) (isAlone needed) 0) × (r .alone ≤ 1)) × ((r .group ≡ cond (isDue time needed) (isGroup needed) 0) × (r .group ≤ 1)) ⌝ }
+{
+    if is_due(needed, time) {
+        let alone = alone_of(needed);
+        let group = group_of(needed);
+        return Served {
+            alone: alone,
+            group: group,
+        };
+    }
+    Served { alone: 0, group: 0 }
+}
+
+// How many replies are due by now.
+pub(crate) fn due_in(head: &[u64], numbers: &[u64], time: u64) -> Served
+    requires { ⌜ (length (now head) ≡ headPlaces) × (length (now numbers) ≡ numbersSize) ⌝ }
+    ensures { λ r. ⌜ ((texts : List ℕ) → (r .alone ≡ sumOf (aloneAt time) (namesIn (now (head .entry)) (now (numbers .entry)) texts)) × (r .group ≡ sumOf (groupAt time) (namesIn (now (head .entry)) (now (numbers .entry)) texts))) × (r .alone ≤ advertisementsMax) × (r .group ≤ advertisementsMax) ⌝ }
+{
+    let n = count_of(head);
+    let mut alone = 0;
+    let mut group = 0;
+    let mut i = 0;
+    while i < n {
+        let step = due_of(reply_at(numbers, i), time);
+        alone += step.alone;
+        group += step.group;
+        i += 1;
+    }
+    Served {
+        alone: alone,
+        group: group,
+    }
 }
 
 // A handle_timeout at name i.

@@ -21,12 +21,13 @@ ghost use Rattle.engine.specs.Held.{Text, Context, byIndex};
 ghost use Rattle.engine.specs.Table.{known};
 ghost use Rattle.engine.specs.Flags.{isMulticast};
 ghost use Rattle.engine.specs.Links.{addressesOf, linkAt, stores};
-ghost use Rattle.engine.specs.Calls.{NewLink, DeletedLink, NewAddress, DeletedAddress, Subscribe, Advertise, Deadvertise, Refresh, Datagram, Timeout, ResetTimer};
+ghost use Rattle.engine.specs.Calls.{NewLink, DeletedLink, NewAddress, DeletedAddress, Subscribe, Advertise, Deadvertise, Refresh, Datagram, ResetTimer};
 ghost use Rattle.message.specs.Parse.{parsed, reads, fieldAt};
 ghost use Rattle.message.specs.declared.Message.the-variants.{Search};
 ghost use Rattle.text.specs.declared.white.Place.{Place};
 ghost use Rattle.engine.specs.declared.advertisement.Endpoint.{Endpoint};
-ghost use Rattle.engine.specs.Refusals.{Names, refusal, newRefusal};
+ghost use Rattle.engine.specs.Need.{Names, need};
+ghost use Rattle.engine.specs.Refusals.{outboxShort, tableFull, refusal, newRefusal};
 
 // The numbers, by what each refuses. Those of texts are the message crate's.
 pub const TIME_LATE: u32 = 1;
@@ -54,6 +55,13 @@ fn first(fails: bool, number: u32, rest: u32) -> u32
     if fails { number } else { rest }
 }
 
+// A table without a free entry, then an outbox that is short.
+fn full_or_short(full: bool, short: bool) -> u32
+    ensures { λ r. ⌜ r ≡ cond full tableFull (cond short outboxShort 0) ⌝ }
+{
+    first(full, TABLE_FULL, first(short, OUTBOX_SHORT, 0))
+}
+
 // `advertise`, where the name is held or not among `count` names.
 pub(crate) fn of_advertise(
     held: bool,
@@ -63,31 +71,29 @@ pub(crate) fn of_advertise(
     service: &[u8],
     location: &[u8],
 ) -> u32
-    ensures { λ r. ⌜ ((x : Context) (n : Names) (room : ℕ) → n .holds (now (name .entry)) ≡ held → n .count ≡ count → ltb room (n .need) ≡ short → r ≡ refusal x n (Advertise (now (name .entry)) (now (service .entry)) (now (location .entry)) room)) ⌝ }
+    ensures { λ r. ⌜ ((x : Context) (n : Names) (room : ℕ) → n .holds (now (name .entry)) ≡ held → n .count ≡ count → ltb room (need x n (Advertise (now (name .entry)) (now (service .entry)) (now (location .entry)) room)) ≡ short → r ≡ refusal x n (Advertise (now (name .entry)) (now (service .entry)) (now (location .entry)) room)) ⌝ }
 {
-    let full = first((!held) & (NAMES <= count), TABLE_FULL, 0);
+    let full = full_or_short((!held) & (NAMES <= count), short);
     let bad = (!good::is_good(name)) | (!good::is_good(service)) | (!good::is_good(location));
     let formed = first(bad, TEXT_NOT_GOOD, full);
     let over = (NAME_SIZE < name.len())
         | (TYPE_SIZE < service.len())
         | (LOCATION_SIZE < location.len());
-    let sized = first(over, TEXT_OVER_SIZE, formed);
-    first(short, OUTBOX_SHORT, sized)
+    first(over, TEXT_OVER_SIZE, formed)
 }
 
 // `subscribe`, where `count` subscriptions are held.
 pub(crate) fn of_subscribe(count: usize, short: bool, service: &[u8]) -> u32
-    ensures { λ r. ⌜ ((x : Context) (n : Names) (room : ℕ) → length (x .subscriptions) ≡ count → ltb room (n .need) ≡ short → r ≡ refusal x n (Subscribe (now (service .entry)) room)) ⌝ }
+    ensures { λ r. ⌜ ((x : Context) (n : Names) (room : ℕ) → length (x .subscriptions) ≡ count → ltb room (need x n (Subscribe (now (service .entry)) room)) ≡ short → r ≡ refusal x n (Subscribe (now (service .entry)) room)) ⌝ }
 {
-    let full = first(SUBSCRIPTIONS <= count, TABLE_FULL, 0);
+    let full = full_or_short(SUBSCRIPTIONS <= count, short);
     let formed = first(!good::is_good(service), TEXT_NOT_GOOD, full);
-    let sized = first(TYPE_SIZE < service.len(), TEXT_OVER_SIZE, formed);
-    first(short, OUTBOX_SHORT, sized)
+    first(TYPE_SIZE < service.len(), TEXT_OVER_SIZE, formed)
 }
 
 // `deadvertise` and `refresh`, which look at the outbox alone.
 pub(crate) fn of_room(short: bool) -> u32
-    ensures { λ r. ⌜ ((x : Context) (n : Names) (room : ℕ) → ltb room (n .need) ≡ short → (r ≡ refusal x n (Refresh room)) × ((name : Text) → r ≡ refusal x n (Deadvertise name room))) ⌝ }
+    ensures { λ r. ⌜ ((x : Context) (n : Names) (room : ℕ) → (ltb room (need x n (Refresh room)) ≡ short → r ≡ refusal x n (Refresh room)) × ((name : Text) → ltb room (need x n (Deadvertise name room)) ≡ short → r ≡ refusal x n (Deadvertise name room))) ⌝ }
 {
     first(short, OUTBOX_SHORT, 0)
 }
@@ -99,13 +105,6 @@ pub(crate) fn of_time(time: u64) -> u32
     first(TIME_MAX < time, TIME_LATE, 0)
 }
 
-// `handle_timeout`.
-pub(crate) fn of_timeout(time: u64, short: bool) -> u32
-    ensures { λ r. ⌜ ((x : Context) (n : Names) (room : ℕ) → ltb room (n .need) ≡ short → r ≡ refusal x n (Timeout time room)) ⌝ }
-{
-    first(TIME_MAX < time, TIME_LATE, first(short, OUTBOX_SHORT, 0))
-}
-
 // News of a link that is multicast or not, and held or not among `count` links.
 pub(crate) fn of_new_link(
     multicast: bool,
@@ -115,12 +114,13 @@ pub(crate) fn of_new_link(
     outcome: u32,
     short: bool,
 ) -> u32
-    ensures { λ r. ⌜ ((x : Context) (n : Names) (room : ℕ) (flags : ℕ) → isMulticast flags ≡ multicast → known byIndex index (x .links) ≡ held → length (x .links) ≡ count → ltb room (n .need) ≡ short → r ≡ refusal x n (NewLink index flags outcome room)) ⌝ }
+    ensures { λ r. ⌜ ((x : Context) (n : Names) (room : ℕ) (flags : ℕ) → isMulticast flags ≡ multicast → known byIndex index (x .links) ≡ held → length (x .links) ≡ count → ltb room (need x n (NewLink index flags outcome room)) ≡ short → r ≡ refusal x n (NewLink index flags outcome room)) ⌝ }
 {
     let fresh = multicast & (!held);
-    let joined = first(fresh & (outcome != 0), JOIN_FAILED, 0);
+    let lent = first(short, OUTBOX_SHORT, 0);
+    let joined = first(fresh & (outcome != 0), JOIN_FAILED, lent);
     let full = first(fresh & (LINKS <= count), LINKS_FULL, joined);
-    first(short, OUTBOX_SHORT, first(index == 0, INDEX_ZERO, full))
+    first(index == 0, INDEX_ZERO, full)
 }
 
 // The deletion of a link.
@@ -138,15 +138,16 @@ pub(crate) fn of_new_address(
     address: &[u8],
     short: bool,
 ) -> u32
-    ensures { λ r. ⌜ ((x : Context) (n : Names) (room : ℕ) → stores index (now (address .entry)) (x .links) ≡ storing → length (addressesOf (linkAt index (x .links))) ≡ count → ltb room (n .need) ≡ short → r ≡ refusal x n (NewAddress index (now (address .entry)) room)) ⌝ }
+    ensures { λ r. ⌜ ((x : Context) (n : Names) (room : ℕ) → stores index (now (address .entry)) (x .links) ≡ storing → length (addressesOf (linkAt index (x .links))) ≡ count → ltb room (need x n (NewAddress index (now (address .entry)) room)) ≡ short → r ≡ refusal x n (NewAddress index (now (address .entry)) room)) ⌝ }
 {
-    let full = first(storing & (ADDRESSES <= count), LINKS_FULL, 0);
+    let lent = first(short, OUTBOX_SHORT, 0);
+    let full = first(storing & (ADDRESSES <= count), LINKS_FULL, lent);
     let formed = first(
         !((address.len() == 4) | (address.len() == 16)),
         ADDRESS_LENGTH,
         full,
     );
-    first(short, OUTBOX_SHORT, first(index == 0, INDEX_ZERO, formed))
+    first(index == 0, INDEX_ZERO, formed)
 }
 
 // The deletion of an address.

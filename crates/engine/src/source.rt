@@ -9,7 +9,7 @@ ghost use mathlib.Core.Path.{_≡_};
 ghost use mathlib.Core.Bool.{cond};
 ghost use mathlib.Core.List.{[], _∷_, _++_};
 ghost use Prim.Native.Nat.{_+_, _≤_, _<_};
-ghost use lib.ListN.{take};
+ghost use lib.ListN.{length, take};
 ghost use Rattle.engine.specs.Sizes.{addressesMax, sourcesMax};
 ghost use Rattle.engine.specs.Links.{upAddresses};
 ghost use Rattle.engine.specs.Addresses.{SourcesOf};
@@ -84,4 +84,29 @@ pub(crate) fn of_up_links(head: &[u64], links: &[u64]) -> Sources
         i += 1;
     }
     out
+}
+
+// How many addresses a link has to send from: none if it is down.
+fn count_if_up(link: Interface) -> usize
+    ensures { λ r. ⌜ (r ≡ length (cond (link .up) (take (link .count) (link .addresses)) [])) × (r ≤ addressesMax) ⌝ }
+{
+    if link.up {
+        return least(link.count, ADDRESSES);
+    }
+    0
+}
+
+// How many addresses are on up links.
+pub(crate) fn up_count(head: &[u64], links: &[u64]) -> usize
+    requires { ⌜ LinkArrays (now head) (now links) ⌝ }
+    ensures { λ r. ⌜ (r ≡ length (upAddresses (linksIn (now (head .entry)) (now (links .entry))))) × (r ≤ sourcesMax) ⌝ }
+{
+    let n = count_of(head);
+    let mut count = 0;
+    let mut i = 0;
+    while i < n {
+        count += count_if_up(link_at(links, i));
+        i += 1;
+    }
+    count
 }

@@ -2,3 +2,4 @@
 // each call; numbers alone cross the boundary, so that whatever it lends is content that the contracts speak of.
 pub mod exported;
 pub mod messages;
+pub mod needs;

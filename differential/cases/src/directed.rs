@@ -1,4 +1,5 @@
 //! Lists written by hand: what the papers single out. Each is read line by line like a random one.
+use crate::outboxes;
 use judge::{LOCATION_SIZE, MAX_TIME, NAMES, NAME_SIZE, SUBSCRIPTIONS, TYPE_SIZE};
 
 /// Document 01's example.
@@ -13,17 +14,19 @@ timeout\t110
 
 const UP: &str = "new\t0\t0\nlink\t1\t4161\t0\naddr\t1\t10.0.0.1\n";
 
-fn search(now: u64, from: &str, to: &str, target: &str, mx: &str) -> String {
+pub(crate) fn search(now: u64, from: &str, to: &str, target: &str, mx: &str) -> String {
     format!("data\t{now}\t{from}\t{to}\tM-SEARCH * HTTP/1.1|ST: {target}|MX: {mx}|\n")
 }
 
 pub fn all() -> Vec<String> {
     let mut lists = vec![String::new(), "\n".into(), "refresh".into(), EXAMPLE.into(), largest(), sizes(), waits(), links(), salvos(), masks()];
     lists.extend(end_of_time());
+    lists.extend(outboxes::all());
     lists
 }
 
-/// 120 records: a salvo of eight names and four searches and eight group replies, over six addresses; then all eight alone.
+/// 120 records: a salvo of eight names and four searches and eight group replies, over six addresses, with one byte less than they take and
+/// with all; then all eight alone.
 fn largest() -> String {
     let mut lines = String::from("new\t0\t0\n");
     for link in 1..=3 {
@@ -38,7 +41,7 @@ fn largest() -> String {
     for from in ["10.0.0.8\t1", "10.0.0.9\t1"] {
         lines += &search(0, from, "10.0.1.1", "ssdp:all", "1");
     }
-    lines += "timeout\t10\ntimeout\t10\n";
+    lines += "outbox\t62879\ntimeout\t10\noutbox\t62880\ntimeout\t10\ntimeout\t10\n";
     lines += &search(20, "10.0.0.8\t1", "255.255.255.255", "t:0", "255");
     lines += "advertise\tu8\tt\t/\nsubscribe\tt\nadvertise\tu7\tt\t/\ndeadvertise\tu6\nadvertise\tu8\tt\t/\ntimeout\t6030\nrefresh\n";
     lines

@@ -4,4 +4,5 @@ pub mod datagrams;
 pub mod dice;
 pub mod directed;
 pub mod lists;
+pub mod outboxes;
 pub mod texts;

@@ -1,9 +1,9 @@
 //! Whole lists of calls as lines of `session` or `trace`, each with what the judge has to say to it. A list is made with
-//! the judge at its side: instants are chosen around the one that it wants to be woken at.
+//! the judge at its side: instants are chosen around the one that it wants to be woken at, and outboxes around what a call needs.
 use crate::datagrams;
 use crate::dice::Dice;
 use crate::directed;
-use judge::{Front, Program, MAX_TIME, NAME_SIZE, OUTBOX, TYPE_SIZE};
+use judge::{read, Front, Line, Program, MAX_TIME, NAME_SIZE, OUTBOX, RECORD, TYPE_SIZE};
 
 /// One list under way.
 pub struct List {
@@ -57,13 +57,51 @@ impl List {
             return lines;
         }
         for line in self.opening() {
-            self.push(line, &mut lines);
+            self.push_with_outbox(line, &mut lines);
         }
         for _ in 0..self.dice.below(400) {
             let line = self.line();
-            self.push(line, &mut lines);
+            self.push_with_outbox(line, &mut lines);
         }
         lines
+    }
+
+    /// The line; for `trace` now and then with an outbox around what its call needs, mostly again with enough, and mostly all bytes behind it.
+    fn push_with_outbox(&mut self, line: Vec<u8>, lines: &mut Vec<(Vec<u8>, String)>) {
+        let need = match self.need(&line) {
+            Some(0) if self.dice.once_in(24) => 0,
+            Some(need) if need > 0 && self.dice.once_in(4) => need,
+            _ => return self.push(line, lines),
+        };
+        let lent = self.length_around(need);
+        self.push(outbox(lent), lines);
+        self.push(line.clone(), lines);
+        if lent < need && !self.dice.once_in(4) {
+            self.push(outbox(need), lines);
+            self.push(line, lines);
+        }
+        if !self.dice.once_in(8) {
+            self.push(outbox(OUTBOX), lines);
+        }
+    }
+
+    /// The bytes that the call of a line of `trace` needs.
+    fn need(&self, line: &[u8]) -> Option<usize> {
+        match (self.program, read(self.program, line)?) {
+            (Program::Trace, Line::Call(call)) => Some(self.front.judge.as_ref()?.need(&call)),
+            _ => None,
+        }
+    }
+
+    /// A length at, near and below what is needed.
+    fn length_around(&mut self, need: usize) -> usize {
+        match self.dice.below(10) {
+            0..=3 => need.saturating_sub(1),
+            4..=6 => need,
+            7 => need + 1 + self.dice.below(RECORD),
+            8 => need.saturating_sub(RECORD),
+            _ => self.dice.below(need + 1),
+        }
     }
 
     fn push(&mut self, mut line: Vec<u8>, lines: &mut Vec<(Vec<u8>, String)>) {
@@ -253,8 +291,12 @@ impl List {
 
     fn trace_line(&mut self) -> Vec<u8> {
         match self.dice.below(4) {
-            0 => format!("outbox\t{}", self.dice.pick(&[OUTBOX, OUTBOX, OUTBOX + 1, 300_000, OUTBOX - 1, 0, 300_001])).into(),
-            1 => format!("outbox\t{OUTBOX}").into(),
+            0 => {
+                let records = if self.dice.once_in(2) { self.dice.below(9) } else { self.dice.below(121) };
+                let short = (RECORD * records).saturating_sub(self.dice.below(2));
+                outbox(self.dice.pick(&[short, short, short, OUTBOX + 1, 300_000, 300_001]))
+            }
+            1 => outbox(OUTBOX),
             _ => {
                 let length = self.dice.pick(&[0, 1, 3, 4, 4, 5, 15, 16, 16, 17, 32, 33]);
                 let hex: String = (0..length).map(|_| format!("{:02x}", self.dice.below(3))).collect();
@@ -284,6 +326,10 @@ impl List {
             _ => self.dice.pick(&lines).as_bytes().to_vec(),
         }
     }
+}
+
+fn outbox(lent: usize) -> Vec<u8> {
+    format!("outbox\t{lent}").into()
 }
 
 /// `start`, filled with `-` up to `length` bytes, `end` last; a `/` is filled with `/`.

@@ -1,4 +1,4 @@
-//! `differences`: runs the unchanged Rust on the smallest inputs at which it parts from document 01, and at which both part
+//! `differences`: runs the unchanged Rust on the smallest inputs at which it parts from documents 01 and 02, and at which both part
 //! from the UPnP Device Architecture. docs/DIFFERENCES.md has the same numbers; a line here says what the Rust did.
 use cotton_netif::{Flags, InterfaceIndex};
 use cotton_ssdp::engine::leaves::{rewrite_host, target_match};
@@ -140,6 +140,9 @@ fn against_the_document() {
     ask(&mut other, 9, "x");
     println!("11 an empty and a damaged datagram: on_data answers nothing");
     println!("12 a failing send_with: ignored (every send of this run failed)");
+
+    let (_, socket) = engine(0, "t", "/");
+    println!("15 advertise at one up address: sends {} message, and is lent no outbox", sent(&socket).len());
 }
 
 fn against_the_architecture() {

@@ -1,13 +1,13 @@
 //! Whole lists of calls through a program of ours and through the judge.
 //!
 //!     compare-lists session|trace PROGRAM SEED COUNT    each list through PROGRAM, until COUNT calls were made
-//!     compare-lists session|trace - SEED COUNT          the judge alone: do the Rust and document 01's text agree?
+//!     compare-lists session|trace - SEED COUNT          the judge alone: do the Rust and the documents' text agree?
 //!     compare-lists session|trace print SEED NUMBER     the lines of one list
 //!
 //! The last line counts lists, calls and differences; status 1 where any differ. The first list that differs is cut down
 //! to the lines that it takes.
 use cases::lists::List;
-use judge::{Front, Program};
+use judge::{bare, read, Front, Line, Program, OUTBOX, RECORD};
 use std::collections::BTreeMap;
 use std::io::Write;
 use std::process::{exit, Command, Stdio};
@@ -29,6 +29,7 @@ fn main() {
         let mut list = List::new(program, seed, seen.lists);
         let lines = list.lines();
         seen.note(&list, &lines);
+        seen.outboxes.note(program, &lines);
         if path != "-" && !same(path, &lines) {
             seen.differences += 1;
             if seen.differences == 1 {
@@ -36,8 +37,12 @@ fn main() {
             }
         }
     }
-    let word = if path == "-" { format!("{word} lists, the Rust and document 01's text alone") } else { word.clone() };
+    let word = if path == "-" { format!("{word} lists, the Rust and the documents' text alone") } else { word.clone() };
     println!("{word}: reached {:?}, at most {} records a call", seen.refusals, seen.records);
+    if program == Program::Trace {
+        let Outboxes { short, exact, none } = seen.outboxes;
+        println!("{word}: outbox too short {short:?}, exactly enough {exact:?}, none lent and none needed {none:?}");
+    }
     println!("{word}: {} lists, {} calls, {} differences", seen.lists, seen.calls, seen.differences);
     exit((seen.differences > 0).into());
 }
@@ -50,6 +55,42 @@ struct Seen {
     differences: u64,
     records: usize,
     refusals: BTreeMap<String, u64>,
+    outboxes: Outboxes,
+}
+
+/// How often each call that may send was refused by 2, was accepted with an outbox that its records fill, and with none at all.
+#[derive(Default)]
+struct Outboxes {
+    short: BTreeMap<&'static str, u64>,
+    exact: BTreeMap<&'static str, u64>,
+    none: BTreeMap<&'static str, u64>,
+}
+
+impl Outboxes {
+    fn note(&mut self, program: Program, lines: &[(Vec<u8>, String)]) {
+        let mut lent = OUTBOX;
+        for (line, answer) in lines.iter().filter(|(_, answer)| answer != "?\n") {
+            match read(program, bare(line)) {
+                Some(Line::Outbox(bytes)) => lent = bytes,
+                Some(Line::Call(call)) => self.note_call(call.sending_word(), lent, answer),
+                None => (),
+            }
+        }
+    }
+
+    fn note_call(&mut self, word: Option<&'static str>, lent: usize, answer: &str) {
+        let mut fields = answer.split('\t');
+        let (Some(word), Some(refusal), Some(records)) = (word, fields.next(), fields.next()) else {
+            return;
+        };
+        let count = match refusal {
+            "2" => &mut self.short,
+            "0" if lent == 0 => &mut self.none,
+            "0" if lent == RECORD * records.parse::<usize>().unwrap() => &mut self.exact,
+            _ => return,
+        };
+        *count.entry(word).or_default() += 1;
+    }
 }
 
 impl Seen {
@@ -68,7 +109,7 @@ impl Seen {
         }
         // The Rust and the document's text part: a finding about the papers, not about our programs.
         for parting in list.front.judge.iter().flat_map(|judge| &judge.partings) {
-            println!("the Rust and document 01 part: {parting}");
+            println!("the Rust and the documents part: {parting}");
             self.differences += 1;
         }
     }

@@ -1,13 +1,17 @@
 //! `compare-host SEED COUNT`: lists of calls through libhost.a, as a host in Rust makes them, and through the judge, until COUNT calls were
-//! made. Answers, records and the whole outbox must be the judge's. The last line counts lists, calls and differences; status 1 where any differ.
+//! made. Answers, records and the whole outbox must be the judge's, and nothing behind it may change. The last line counts lists, calls and
+//! differences; status 1 where any differ.
 use cases::lists::List;
 use judge::call::{Answer, Call, Peer, Record};
 use judge::{bare, read, Line, Program, OUTBOX};
 use kohlsilk::{Engine, Refusal};
 use std::net::SocketAddrV4;
 
-/// What the outbox holds before a call.
+/// What the outbox holds before a call, and the bytes behind it.
 const STALE: u8 = 165;
+
+/// So many bytes behind what is lent are looked at: room for the records of any call, had it been lent none.
+const BEHIND: usize = OUTBOX;
 
 fn main() {
     let args: Vec<u64> = std::env::args().skip(1).map(|arg| arg.parse().unwrap()).collect();
@@ -17,7 +21,7 @@ fn main() {
     let (mut lists, mut calls, mut differences) = (0, 0, 0);
     while calls < count {
         let lines = List::new(Program::Trace, seed, lists).lines();
-        let mut host = Host { engine: None, outbox: vec![STALE; OUTBOX], calls: 0 };
+        let mut host = Host { engine: None, outbox: vec![STALE; OUTBOX + BEHIND], lent: OUTBOX, calls: 0 };
         let parting = lines.iter().find_map(|(line, expected)| {
             let answer = host.line(bare(line));
             (answer != *expected).then(|| format!("{}--- the judge\n{expected}--- ours\n{answer}", String::from_utf8_lossy(line)))
@@ -37,6 +41,7 @@ fn main() {
 struct Host {
     engine: Option<Engine>,
     outbox: Vec<u8>,
+    lent: usize,
     calls: u64,
 }
 
@@ -54,12 +59,12 @@ impl Host {
             },
             (Line::Call(Call::New { .. }), Some(_)) | (_, None) => return None,
             (Line::Outbox(lent), Some(_)) => {
-                self.outbox = vec![STALE; lent];
+                (self.outbox, self.lent) = (vec![STALE; lent + BEHIND], lent);
                 return Some("ok\n".into());
             }
             (Line::Call(call), Some(engine)) => {
                 self.outbox.fill(STALE);
-                let made = made(engine, &call, &mut self.outbox);
+                let made = made(engine, &call, &mut self.outbox[..self.lent]);
                 answered(engine, made, &self.outbox)?
             }
         };

@@ -19,6 +19,22 @@ pub enum Call {
     Reset { now: u64 },
 }
 
+impl Call {
+    /// Document 01, refusal 2: 'subscribe, advertise, deadvertise, refresh, handle_timeout, new link, new address', by their words in the session.
+    pub fn sending_word(&self) -> Option<&'static str> {
+        match self {
+            Call::Link { .. } => Some("link"),
+            Call::Addr { .. } => Some("addr"),
+            Call::Subscribe { .. } => Some("subscribe"),
+            Call::Advertise { .. } => Some("advertise"),
+            Call::Deadvertise { .. } => Some("deadvertise"),
+            Call::Refresh => Some("refresh"),
+            Call::Timeout { .. } => Some("timeout"),
+            Call::New { .. } | Call::DelLink { .. } | Call::DelAddr { .. } | Call::Data { .. } | Call::Reset { .. } => None,
+        }
+    }
+}
+
 /// A sender: IPv4 address and port.
 #[derive(Clone, Copy, Debug, PartialEq, Eq)]
 pub struct Peer {

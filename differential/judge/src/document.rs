@@ -1,5 +1,6 @@
-//! Document 01's engine and ledger, written from its text alone: the refusals in their order, the records that a call
-//! sends, the six counts. Only the texts of messages (`parse`, `build_*`) are the Rust's own, as the document has it.
+//! The engine and ledger of documents 01 and 02 (change 1), written from their text alone: the refusals in their order, how many
+//! records a call needs room for, the records that it sends, the six counts. Only the texts of messages (`parse`, `build_*`) are the
+//! Rust's own, as document 01 has it. A quotation is of document 01 where no other is named.
 use crate::call::{Answer, Call, Peer, Record};
 use crate::refusal;
 use crate::text;
@@ -17,7 +18,6 @@ pub const NAME_SIZE: usize = 128;
 pub const TYPE_SIZE: usize = 80;
 pub const LOCATION_SIZE: usize = 120;
 pub const RECORD: usize = 524;
-pub const OUTBOX: usize = 62_880;
 const GROUP: Peer = Peer { address: Ipv4Addr::new(239, 255, 255, 250), port: 1900 };
 const ALL: &[u8] = b"ssdp:all";
 
@@ -82,38 +82,98 @@ impl Document {
         waits.map(|w| w.due).min().unwrap_or(u64::MAX).min(self.salvo)
     }
 
-    /// 'Who can be turned away': the first number, in the order listed, that the call meets; 0 for none.
+    /// The first number that the call meets; 0 for none. Document 02: 'Refusal 2 is now for an outbox under 524 times the records that
+    /// this very call would write, and is checked last in every call'.
     pub fn refusal(&self, call: &Call, lent: usize) -> u32 {
+        let mut rules = self.rules(call);
+        rules.push((lent < RECORD * self.need(call), refusal::OUTBOX_SHORT));
+        first(rules)
+    }
+
+    /// 'Who can be turned away': each number but 2, 'in the order listed, per call', and whether the call meets it.
+    fn rules(&self, call: &Call) -> Vec<(bool, u32)> {
         let late = |now: u64| (now > MAX_TIME, refusal::TIME_LATE);
-        let short = (lent < OUTBOX, refusal::OUTBOX_SHORT);
         let over = |texts: &[(&[u8], usize)]| (texts.iter().any(|(t, size)| t.len() > *size), refusal::TEXT_OVER_SIZE);
         let bad = |texts: &[(&[u8], usize)]| (texts.iter().any(|(t, _)| !text::good(t)), refusal::TEXT_NOT_GOOD);
         let unnamed = |index: u32| (index == 0, refusal::INDEX_ZERO);
         let odd = |address: &[u8]| (address.len() != 4 && address.len() != 16, refusal::ADDRESS_LENGTH);
-        first(match call {
-            Call::New { now, .. } | Call::Reset { now } => vec![late(*now)],
+        match call {
+            Call::New { now, .. } | Call::Timeout { now } | Call::Reset { now } => vec![late(*now)],
             Call::Link { index, flags, outcome } => {
                 let new = flags & 0x1000 != 0 && !self.links.contains_key(index);
-                vec![short, unnamed(*index), (new && self.links.len() == LINKS, refusal::LINKS_FULL), (new && *outcome != 0, refusal::JOIN_FAILED)]
+                vec![unnamed(*index), (new && self.links.len() == LINKS, refusal::LINKS_FULL), (new && *outcome != 0, refusal::JOIN_FAILED)]
             }
             Call::DelLink { index, .. } => vec![unnamed(*index)],
             Call::Addr { index, address } => {
-                vec![short, unnamed(*index), odd(address), (self.third(*index, address), refusal::LINKS_FULL)]
+                vec![unnamed(*index), odd(address), (self.third(*index, address), refusal::LINKS_FULL)]
             }
             Call::DelAddr { index, address } => vec![unnamed(*index), odd(address)],
             Call::Subscribe { kind } => {
                 let texts: [(&[u8], usize); 1] = [(kind, TYPE_SIZE)];
-                vec![short, over(&texts), bad(&texts), (self.subscriptions.len() == SUBSCRIPTIONS, refusal::TABLE_FULL)]
+                vec![over(&texts), bad(&texts), (self.subscriptions.len() == SUBSCRIPTIONS, refusal::TABLE_FULL)]
             }
             Call::Advertise { name, kind, location } => {
                 let texts: [(&[u8], usize); 3] = [(name, NAME_SIZE), (kind, TYPE_SIZE), (location, LOCATION_SIZE)];
                 let ninth = self.names.len() == NAMES && !self.names.contains_key(name);
-                vec![short, over(&texts), bad(&texts), (ninth, refusal::TABLE_FULL)]
+                vec![over(&texts), bad(&texts), (ninth, refusal::TABLE_FULL)]
             }
-            Call::Deadvertise { .. } | Call::Refresh => vec![short],
+            Call::Deadvertise { .. } | Call::Refresh => vec![],
             Call::Data { now, datagram, .. } => vec![late(*now), (true, peer_refusal(datagram))],
-            Call::Timeout { now } => vec![late(*now), short],
-        })
+        }
+    }
+
+    /// Document 02: 'the records that this very call would write', by its formula: the numbers of what is held, and no record made.
+    pub fn need(&self, call: &Call) -> usize {
+        let (all, up) = (self.names.len() + self.searches_count(), self.up_addresses_count());
+        match call {
+            // Document 02: 'for refresh, advertisements plus searches, times addresses on up links.'
+            Call::Refresh => all * up,
+            // Document 02: 'For handle_timeout that sum counts where the salvo is due, and the replies due are added'
+            Call::Timeout { now } => usize::from(*now >= self.salvo) * all * up + self.replies_due(*now, up),
+            // '`subscribe` sends its search, `advertise` its notify, .. once to every address on up links.'
+            Call::Subscribe { .. } | Call::Advertise { .. } => up,
+            // '`deadvertise` of a known name its byebye'
+            Call::Deadvertise { name } => usize::from(self.names.contains_key(name)) * up,
+            // 'one turning up sends to its addresses', and 'To one address: the same searches, then advertisements.'
+            Call::Link { index, flags, .. } => all * self.addresses_turning_up(*index, *flags),
+            // 'any other is stored last and, on an up link, sent to'
+            Call::Addr { index, address } => usize::from(self.is_sent_to(*index, address)) * all,
+            Call::New { .. } | Call::DelLink { .. } | Call::DelAddr { .. } | Call::Data { .. } | Call::Reset { .. } => 0,
+        }
+    }
+
+    /// Document 02: 'Searches count 1 when a subscription is `ssdp:all`.'
+    fn searches_count(&self) -> usize {
+        if self.subscriptions.iter().any(|kind| kind == ALL) {
+            1
+        } else {
+            self.subscriptions.len()
+        }
+    }
+
+    /// Document 02: 'addresses on up links'
+    fn up_addresses_count(&self) -> usize {
+        self.links.values().map(|link| usize::from(link.up) * link.addresses.len()).sum()
+    }
+
+    /// Document 02: 'the replies due are added, group ones once an address'; a lone one 'writes exactly one record'.
+    fn replies_due(&self, now: u64, up: usize) -> usize {
+        let waits = self.names.values().filter_map(|held| held.wait.as_ref());
+        waits.filter(|wait| wait.due <= now).map(|wait| if wait.group { up } else { 1 }).sum()
+    }
+
+    /// The addresses of a known link that was down and is up by this news, which does nothing 'without MULTICAST'.
+    fn addresses_turning_up(&self, index: u32, flags: u32) -> usize {
+        let up = flags & 0x1000 != 0 && flags & 0x41 == 0x41;
+        self.links.get(&index).map_or(0, |link| usize::from(up && !link.up) * link.addresses.len())
+    }
+
+    /// Not 'a repeated, IPv6 or unknown-link address', and on an up link.
+    fn is_sent_to(&self, index: u32, address: &[u8]) -> bool {
+        match (ipv4(address), self.links.get(&index)) {
+            (Some(address), Some(link)) => link.up && !link.addresses.contains(&address),
+            _ => false,
+        }
     }
 
     /// 13: 'a third address that would be stored'.

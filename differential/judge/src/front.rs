@@ -1,8 +1,11 @@
 //! Document 01, 'The session program', and the further lines of `trace`: from lines to calls, from answers to lines.
 use crate::call::{Call, Peer};
 use crate::text::number;
-use crate::{Judge, OUTBOX};
+use crate::Judge;
 use std::net::Ipv4Addr;
+
+/// '`session` lends 62,880 bytes', and `trace` too until an `outbox` line.
+pub const OUTBOX: usize = 62_880;
 
 #[derive(Clone, Copy, PartialEq, Eq)]
 pub enum Program {

@@ -1,5 +1,5 @@
 //! `judge session` and `judge trace`: reads the lines of that program on standard input and prints what it has to print.
-//! Status 2, with a line on standard error for each place, where the Rust and document 01's text part.
+//! Status 2, with a line on standard error for each place, where the Rust and the documents' text part.
 use judge::{Front, Program};
 use std::io::{Read, Write};
 
@@ -16,7 +16,7 @@ fn main() {
     std::io::stdout().write_all(output.as_bytes()).unwrap();
     let partings = front.judge.map_or(vec![], |judge| judge.partings);
     for parting in &partings {
-        eprintln!("the Rust and document 01 part: {parting}");
+        eprintln!("the Rust and the documents part: {parting}");
     }
     std::process::exit(if partings.is_empty() { 0 } else { 2 });
 }

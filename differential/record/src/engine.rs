@@ -1,6 +1,6 @@
 //! `record-engine FOLDER`: writes FOLDER/stdin, lists of calls with what the judge has to say to each (the unchanged engine.rs:
-//! records, who is told, poll; document 01's text: refusals, the ledger's counts), and FOLDER/stdout, what a program that
-//! replays them without a difference has to print. The lists are those of cases/src/directed.rs, short random ones of
+//! records, who is told, poll; the text of documents 01 and 02: refusals, the ledger's counts), and FOLDER/stdout, what a program
+//! that replays them without a difference has to print. The lists are those of cases/src/directed.rs, short random ones of
 //! cases/src/lists.rs, and some that no line of `trace` can say: texts with line ends, an engine whose `new` was refused.
 //!
 //! One line a call, fields parted by a blank, numbers and bytes in hexadecimal: a letter; the length of the outbox; four numbers;
@@ -20,9 +20,10 @@
 //! | t z | handle_timeout, reset_refresh_timer | time | |
 mod list;
 
+use cases::directed;
 use cases::lists::List;
 use judge::call::{Answer, Call};
-use judge::{read, Judge, Line, Program, MAX_TIME, OUTBOX};
+use judge::{read, Judge, Line, Program, MAX_TIME, OUTBOX, RECORD};
 
 /// Calls of a list, each with the length of its outbox.
 type Calls = Vec<(Call, usize)>;
@@ -30,7 +31,8 @@ type Calls = Vec<(Call, usize)>;
 fn main() {
     let folder = std::env::args().nth(1).expect("record-engine FOLDER");
     // The lists by hand are whole; of the random ones every fourth is long enough to be deep.
-    let length = |number| if number < 12 || number % 4 == 0 { 70 } else { 16 };
+    let by_hand = directed::all().len() as u64;
+    let length = |number| if number < by_hand { usize::MAX } else { [70, 16, 16, 16][number as usize % 4] };
     let mut lists: Vec<Calls> = (0..240).map(|number| from_lines(List::new(Program::Trace, 2024, number), length(number))).collect();
     lists.extend(beyond_lines());
     list::write(&folder, &lists.iter().flat_map(|calls| recorded(calls)).collect::<Vec<_>>());
@@ -74,9 +76,14 @@ fn beyond_lines() -> Vec<Calls> {
         Call::Refresh,
         Call::Timeout { now: 0 },
     ];
-    [Call::New { seed: 5, now: 7 }, Call::New { seed: 5, now: MAX_TIME + 1 }]
-        .map(|new| [&[new], &up[..], &ends[..]].concat().into_iter().map(|call| (call, OUTBOX)).collect())
-        .into()
+    // With room for all, and for the record of one message alone.
+    let mut lists = vec![];
+    for lent in [OUTBOX, RECORD] {
+        for new in [Call::New { seed: 5, now: 7 }, Call::New { seed: 5, now: MAX_TIME + 1 }] {
+            lists.push([&[new], &up[..], &ends[..]].concat().into_iter().map(|call| (call, lent)).collect());
+        }
+    }
+    lists
 }
 
 fn recorded(calls: &Calls) -> Vec<String> {
@@ -94,7 +101,7 @@ fn recorded(calls: &Calls) -> Vec<String> {
         };
         lines.push(line(call, *lent, &answer));
     }
-    assert!(judge.is_none_or(|judge| judge.partings.is_empty()), "the Rust and document 01 part");
+    assert!(judge.is_none_or(|judge| judge.partings.is_empty()), "the Rust and the documents part");
     lines
 }
 

@@ -19,6 +19,7 @@ use std::time::Instant;
 
 pub struct Host {
     pub engine: Engine,
+    /// Lent to every call: as long as the most that any call on any engine needs, so that none is ever refused by number 2.
     pub outbox: Vec<u8>,
     pub ttl: u8,
     /// Of each link that is held.
@@ -212,4 +213,40 @@ fn is_search(datagram: &[u8]) -> bool {
 /// The number of an error as an outcome, which is not 0.
 pub fn error_number(error: &io::Error) -> u32 {
     error.raw_os_error().map_or(1, |number| number as u32)
+}
+
+#[cfg(test)]
+mod tests {
+    use super::*;
+    use kohlsilk::{flags, ADDRESSES, LINKS, NAMES, RECORDS, SUBSCRIPTIONS};
+
+    /// A command line that fills the tables of names and of subscriptions.
+    fn full() -> Arguments {
+        let names = (0..NAMES).map(|k| format!("--advertise u{k} t http://h/ "));
+        let line: String = names.chain((0..SUBSCRIPTIONS).map(|k| format!("--subscribe s{k} "))).collect();
+        Arguments::read(line.split_ascii_whitespace().chain(["--answer-anyone"]).map(Into::into)).unwrap()
+    }
+
+    /// The largest of all calls: the salvo of a full engine, and behind it a reply to the group for each name, from every address.
+    #[test]
+    fn the_outbox_is_long_enough_for_the_largest_timeout() {
+        let arguments = full();
+        let mut host = Host::new(0, &arguments).unwrap();
+        assert!(host.begin(&arguments));
+        for index in 1..=LINKS as u32 {
+            host.engine.new_link(index, flags::UP | flags::RUNNING | flags::MULTICAST, 0, &mut host.outbox).unwrap();
+            for k in 1..=ADDRESSES as u8 {
+                host.engine.new_address(index, &[10, 0, index as u8, k], &mut host.outbox).unwrap();
+            }
+        }
+        for port in [5000, 5001] {
+            let sender = SocketAddrV4::new([10, 0, 1, 9].into(), port);
+            let received = Received { len: 0, sender, receiver: [10, 0, 1, 1].into(), link: 1 };
+            host.on_datagram(&received, b"M-SEARCH * HTTP/1.1\r\nST: ssdp:all\r\nMX: 1\r\n\r\n");
+        }
+        let later = host.now() + 1000;
+        assert_eq!(host.engine.handle_timeout_need(later), host.outbox.len());
+        assert_eq!(host.engine.handle_timeout(later, &mut host.outbox).unwrap().records, RECORDS);
+        assert!(host.refusals.all().is_empty());
+    }
 }

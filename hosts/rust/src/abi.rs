@@ -15,6 +15,7 @@ type Texts = [u8; TEXTS_WIDTH * NAMES];
 /// The engine as the host holds it: the arrays that each call is lent. They are numbers alone, so that any bytes are a value of it.
 #[repr(C)]
 #[derive(Clone)]
+#[cfg_attr(test, derive(PartialEq))]
 pub struct EngineArrays {
     head: Head,
     links: Links,
@@ -164,6 +165,12 @@ extern "C" {
         room: usize,
     ) -> RawAnswer;
     fn kohlsilk_lent_reset_refresh_timer(h: &mut Head, n: &Numbers, time: u64) -> RawAnswer;
+    fn kohlsilk_lent_announcement_need(h: &Head, l: &Links) -> usize;
+    fn kohlsilk_lent_deadvertise_need(h: &Head, l: &Links, n: &Numbers, t: &Texts, name: Bytes, len: usize) -> usize;
+    fn kohlsilk_lent_refresh_need(h: &Head, l: &Links, s: &Searches) -> usize;
+    fn kohlsilk_lent_handle_timeout_need(h: &Head, l: &Links, s: &Searches, n: &Numbers, time: u64) -> usize;
+    fn kohlsilk_lent_new_link_need(h: &Head, l: &Links, s: &Searches, index: u32, flags: u32) -> usize;
+    fn kohlsilk_lent_new_address_need(h: &Head, l: &Links, s: &Searches, index: u32, address: Bytes, len: usize) -> usize;
     fn kohlsilk_parse(datagram: Bytes, n: usize) -> Parsed;
     fn kohlsilk_build_search(b: Lent, room: usize, st: Bytes, k: usize) -> Written;
     fn kohlsilk_build_response(b: Lent, room: usize, st: Bytes, k: usize, usn: Bytes, n: usize, location: Bytes, l: usize) -> Written;
@@ -243,6 +250,37 @@ pub fn reset_refresh_timer(e: &mut EngineArrays, time: u64) -> RawAnswer {
     unsafe { kohlsilk_lent_reset_refresh_timer(&mut e.head, &e.numbers, time) }
 }
 
+/// Of `subscribe` and of `advertise`.
+pub fn announcement_need(e: &EngineArrays) -> usize {
+    // SAFETY: as above.
+    unsafe { kohlsilk_lent_announcement_need(&e.head, &e.links) }
+}
+
+pub fn deadvertise_need(e: &EngineArrays, name: &[u8]) -> usize {
+    // SAFETY: as above.
+    unsafe { kohlsilk_lent_deadvertise_need(&e.head, &e.links, &e.numbers, &e.texts, name.as_ptr(), name.len()) }
+}
+
+pub fn refresh_need(e: &EngineArrays) -> usize {
+    // SAFETY: as above.
+    unsafe { kohlsilk_lent_refresh_need(&e.head, &e.links, &e.searches) }
+}
+
+pub fn handle_timeout_need(e: &EngineArrays, time: u64) -> usize {
+    // SAFETY: as above.
+    unsafe { kohlsilk_lent_handle_timeout_need(&e.head, &e.links, &e.searches, &e.numbers, time) }
+}
+
+pub fn new_link_need(e: &EngineArrays, index: u32, flags: u32) -> usize {
+    // SAFETY: as above.
+    unsafe { kohlsilk_lent_new_link_need(&e.head, &e.links, &e.searches, index, flags) }
+}
+
+pub fn new_address_need(e: &EngineArrays, index: u32, address: &[u8]) -> usize {
+    // SAFETY: as above.
+    unsafe { kohlsilk_lent_new_address_need(&e.head, &e.links, &e.searches, index, address.as_ptr(), address.len()) }
+}
+
 pub fn parse(datagram: &[u8]) -> Parsed {
     // SAFETY: `datagram` is lent for the call, and its length is the slice's.
     unsafe { kohlsilk_parse(datagram.as_ptr(), datagram.len()) }
@@ -269,6 +307,9 @@ pub fn build_byebye(b: &mut [u8], nt: &[u8], usn: &[u8]) -> Written {
     // SAFETY: `b` is lent writable and apart from the texts; lengths are the slices'.
     unsafe { kohlsilk_build_byebye(b.as_mut_ptr(), b.len(), nt.as_ptr(), nt.len(), usn.as_ptr(), usn.len()) }
 }
+
+#[cfg(test)]
+mod needs;
 
 #[cfg(test)]
 mod tests {

@@ -9,8 +9,35 @@ use core::net::{Ipv4Addr, SocketAddrV4};
 /// The engine: up to [`NAMES`](crate::NAMES) advertisements, [`SUBSCRIPTIONS`](crate::SUBSCRIPTIONS), [`LINKS`](crate::LINKS) with
 /// [`ADDRESSES`](crate::ADDRESSES) each, and the replies that wait. It takes about 4 KB, holds no pointer and allocates nothing.
 ///
-/// Times are milliseconds from any start. An outbox is any bytes that the host lends, at least [`OUTBOX_SIZE`](crate::OUTBOX_SIZE) of them:
-/// a shorter one is refused by number 2. A refused call changes nothing.
+/// Times are milliseconds from any start. A refused call changes nothing.
+///
+/// # The outbox
+///
+/// What a call sends it writes to bytes that the host lends, [`RECORD_SIZE`](crate::RECORD_SIZE) of them for each record. An outbox that is too
+/// short for the records of this very call is refused by number 2, where nothing else refuses the call; bytes behind the last record keep their
+/// values. [`OUTBOX_SIZE`](crate::OUTBOX_SIZE) bytes are enough for every call on any engine. A host with less memory asks how many bytes a call needs right
+/// before it, by the function of the same name with `_need`; the answer is good until the next call.
+///
+/// ```
+/// use kohlsilk::{flags, Engine, Refusal, RECORD_SIZE};
+///
+/// let mut engine = Engine::new(0, 0)?;
+/// // Nothing is announced yet and nothing searched for: news of the network sends nothing.
+/// engine.new_link(1, flags::UP | flags::RUNNING | flags::MULTICAST, 0, &mut [])?;
+/// engine.new_address(1, &[10, 0, 0, 1], &mut [])?;
+///
+/// // One name from one address is one record.
+/// let mut outbox = [0; RECORD_SIZE];
+/// assert_eq!(engine.advertise_need(), outbox.len());
+/// assert_eq!(engine.advertise("u1", "t:1", "http://h/d", &mut []), Err(Refusal::OUTBOX_SHORT));
+/// assert_eq!(engine.advertise("u1", "t:1", "http://h/d", &mut outbox)?.records, 1);
+///
+/// // A second address doubles what the next refresh needs.
+/// assert_eq!(engine.new_address_need(1, &[10, 0, 0, 2]), RECORD_SIZE);
+/// engine.new_address(1, &[10, 0, 0, 2], &mut outbox)?;
+/// assert_eq!(engine.handle_timeout_need(engine.poll()), 2 * RECORD_SIZE);
+/// # Ok::<(), Refusal>(())
+/// ```
 #[derive(Clone)]
 pub struct Engine {
     arrays: EngineArrays,
@@ -127,6 +154,61 @@ impl Engine {
         self.waiting = answer.waiting;
         self.poll = answer.poll;
         Answer::of(&answer)
+    }
+}
+
+/// What a call needs of an outbox, in bytes, by the count that the library itself refuses by.
+impl Engine {
+    /// What [`Engine::subscribe`] needs: a record from each address on a link that is up.
+    pub fn subscribe_need(&self) -> usize {
+        abi::announcement_need(&self.arrays)
+    }
+
+    /// What [`Engine::advertise`] needs: a record from each address on a link that is up.
+    pub fn advertise_need(&self) -> usize {
+        abi::announcement_need(&self.arrays)
+    }
+
+    /// What [`Engine::deadvertise`] needs: a record from each address on a link that is up, or nothing where the name is not held.
+    pub fn deadvertise_need(&self, name: impl AsRef<[u8]>) -> usize {
+        abi::deadvertise_need(&self.arrays, name.as_ref())
+    }
+
+    /// What [`Engine::refresh`] needs: a record for each name and each search, from each address on a link that is up. There is a search for each
+    /// subscription, and one alone where a subscription is `ssdp:all`.
+    ///
+    /// ```
+    /// # use kohlsilk::{flags, Engine, OUTBOX_SIZE, RECORD_SIZE};
+    /// # let (mut engine, mut outbox) = (Engine::new(0, 0)?, vec![0; OUTBOX_SIZE]);
+    /// # engine.new_link(1, flags::UP | flags::RUNNING | flags::MULTICAST, 0, &mut outbox)?;
+    /// # engine.new_address(1, &[10, 0, 0, 1], &mut outbox)?;
+    /// engine.advertise("u1", "t:1", "http://h/d", &mut outbox)?;
+    /// engine.subscribe("t:2", &mut outbox)?;
+    /// engine.subscribe("t:3", &mut outbox)?;
+    /// assert_eq!(engine.refresh_need(), 3 * RECORD_SIZE);
+    /// engine.subscribe("ssdp:all", &mut outbox)?;
+    /// assert_eq!(engine.refresh_need(), 2 * RECORD_SIZE);
+    /// # Ok::<(), kohlsilk::Refusal>(())
+    /// ```
+    pub fn refresh_need(&self) -> usize {
+        abi::refresh_need(&self.arrays)
+    }
+
+    /// What [`Engine::handle_timeout`] needs at this time: that of a refresh, if the refresh is due, and for each reply that is due one record to
+    /// its searcher, or one to the group from each address on a link that is up.
+    pub fn handle_timeout_need(&self, time: u64) -> usize {
+        abi::handle_timeout_need(&self.arrays, time)
+    }
+
+    /// What [`Engine::new_link`] needs: a record for each name and each search, from each address of a link that is held and turns up; for other
+    /// news nothing.
+    pub fn new_link_need(&self, index: u32, flags: u32) -> usize {
+        abi::new_link_need(&self.arrays, index, flags)
+    }
+
+    /// What [`Engine::new_address`] needs: a record for each name and each search, if the address is stored on a link that is up; otherwise nothing.
+    pub fn new_address_need(&self, index: u32, address: &[u8]) -> usize {
+        abi::new_address_need(&self.arrays, index, address)
     }
 }
 

@@ -32,7 +32,7 @@ macro_rules! refusals {
 
 refusals! {
     1 TIME_LATE "the time is above 2^63 - 1 milliseconds";
-    2 OUTBOX_SHORT "the outbox is shorter than what a call may need";
+    2 OUTBOX_SHORT "the outbox is shorter than what this call needs";
     3 TEXT_OVER_SIZE "a name, a type or a location is over its size";
     4 TEXT_NOT_GOOD "a text is not UTF-8, holds a line end, or starts or ends in white space";
     5 TABLE_FULL "as many names or subscriptions are held as there is room for";

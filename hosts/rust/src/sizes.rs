@@ -30,7 +30,7 @@ pub const RECORD_SIZE: usize = 524;
 /// The most records of a call: a refresh and a reply to the group for each name, from each address.
 pub const RECORDS: usize = (2 * NAMES + SUBSCRIPTIONS) * LINKS * ADDRESSES;
 
-/// The length of an outbox that no call refuses.
+/// The length of an outbox that no call refuses: the most that any call on any engine needs.
 pub const OUTBOX_SIZE: usize = RECORD_SIZE * RECORDS;
 
 /// The places of the head: the timer, and how many of each are held.

@@ -59,7 +59,8 @@ fn what_is_laid_out() {
 /// The functions that the header declares and does not have inline: their lines begin with what they answer.
 fn declared() -> BTreeSet<String> {
     let header = include_str!("../../../include/kohlsilk.h");
-    let names = header.lines().filter(|line| line.starts_with("struct kohlsilk_")).filter_map(|line| line.split_once('('));
+    let answers = ["struct kohlsilk_", "size_t kohlsilk_"];
+    let names = header.lines().filter(|line| answers.iter().any(|front| line.starts_with(front))).filter_map(|line| line.split_once('('));
     names.map(|(front, _)| front.rsplit(' ').next().unwrap().to_string()).collect()
 }
 
@@ -69,7 +70,7 @@ fn the_shared_library_exports_what_the_header_declares() {
     let exported = done(Command::new("nm").args(["--dynamic", "--defined-only", "--format=posix", &library]));
     let functions = exported.lines().filter(|line| line.contains(" T ")).map(|line| line.split(['@', ' ']).next().unwrap().to_string());
     assert_eq!(functions.collect::<BTreeSet<_>>(), declared());
-    assert_eq!(declared().len(), 17);
+    assert_eq!(declared().len(), 17 + 6);
     assert!(done(Command::new("readelf").args(["--dynamic", &library])).contains("Library soname: [libkohlsilk.so.1]"));
 }
 

@@ -1,11 +1,12 @@
--- `is_clean` meets its contract: the outbox is full, or the rest of it decides.
-use Rattle.dialogue.proofs.Outbox.{clean-full, clean-rest}
+-- `is_clean` meets its contract: there are more records than there is room for, or the rest of the outbox decides.
+use Rattle.dialogue.proofs.Outbox.{clean-over, clean-rest}
 use borrow.Author.Needs.{needs}
+use native.Mathlib.Omega.{arith}
 use Rattle.dialogue.proofs.record.is_clean.Statement.{statement}
 use Rattle.dialogue.proofs.record.is_clean.Tie as tie
 
 returns : tie.Need-returns
-returns c = let a = c .before .before .args in clean-full (a .n) (a .outbox .now) (c .if1 .taken)
+returns c = let a = c .before .before .args in clean-over (a .n) (a .outbox .now) (c .if1 .taken)
 
 mul-end : tie.Need-mul-end
 mul-end c = search needs
@@ -26,7 +27,7 @@ are-padded-requires : tie.Need-are-padded-requires
 are-padded-requires c κs = search needs
 
 returns-2 : tie.Need-returns-2
-returns-2 c = let a = c .before .before .before .before .before .args in clean-rest (a .n) (a .outbox .now) (c .before .is-all .ensures) (c .are-padded .ensures)
+returns-2 c = let a = c .before .before .before .before .before .args in clean-rest (a .n) (a .outbox .now) (omega (arith, c .before .before .before .if1 .left)) (c .before .is-all .ensures) (c .are-padded .ensures)
 
 pub is-clean-spec : {M : Type 1} → statement M
 is-clean-spec =

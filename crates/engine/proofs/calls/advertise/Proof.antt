@@ -18,6 +18,7 @@ use Rattle.engine.specs.Sizes.{locationMax}
 use Rattle.message.specs.Build.{nameMax, typeMax}
 use borrow.Author.Needs.{needs}
 use borrow.Author.Tests.{ltb-false}
+use lib.Dec.{ltb}
 use lib.ListN.{length}
 use native.Mathlib.Omega.{arith}
 use Rattle.engine.proofs.Answering as answering
@@ -31,6 +32,9 @@ spot-of-requires c κs = search needs
 count-of-requires : tie.Need-count-of-requires
 count-of-requires c κs = search needs
 
+of-announcement-requires : tie.Need-of-announcement-requires
+of-announcement-requires c κs = search needs
+
 of-advertise-requires : tie.Need-of-advertise-requires
 of-advertise-requires c κs = search needs
 
@@ -42,10 +46,12 @@ unfolding refusalOf namesOf held
 returns c searches =
     let at-if1 = c .before .before .before .before .before in
     let at-of-advertise = at-if1 .before in
-    let at-count-of = at-of-advertise .before in
+    let at-of-announcement = at-of-advertise .before in
+    let at-count-of = at-of-announcement .before .before in
     let at-spot-of = at-count-of .before .before .before in
     let a = at-spot-of .before .before .before .before .before .before .before .before .before .before .before .args in
-    lending.refused-answers (engine (a .head .now) (a .links .now) searches (a .numbers .now) (a .texts .now)) (Advertise (a .name .now) (a .service .now) (a .location .now) (length (a .outbox .now))) _ _ (at-of-advertise .of-advertise .result) (sym (at-of-advertise .of-advertise .ensures _ _ _ (sym (at-spot-of .spot-of .ensures .known)) (names-length (a .head .now) (a .numbers .now) (a .texts .now) ∙ sym (at-count-of .count-of .ensures)) refl)) (at-if1 .if1 .taken) (c .refused .ensures _ searches _)
+    let short = ap (ltb (length (a .outbox .now))) (sym (at-of-announcement .of-announcement .ensures searches (a .numbers .now) (a .texts .now) (a .name .now) (a .service .now) (a .location .now) (length (a .outbox .now)) .1)) in
+    lending.refused-answers (engine (a .head .now) (a .links .now) searches (a .numbers .now) (a .texts .now)) (Advertise (a .name .now) (a .service .now) (a .location .now) (length (a .outbox .now))) _ _ (at-of-advertise .of-advertise .result) (sym (at-of-advertise .of-advertise .ensures _ _ _ (sym (at-spot-of .spot-of .ensures .known)) (names-length (a .head .now) (a .numbers .now) (a .texts .now) ∙ sym (at-count-of .count-of .ensures)) short)) (at-if1 .if1 .taken) (c .refused .ensures _ searches _)
 
 of-up-links-requires : tie.Need-of-up-links-requires
 of-up-links-requires c κs = search needs
@@ -55,12 +61,14 @@ unfolding checks namesOf held records
 send-alive-requires c κs =
     let at-if1 = c .before .before .before .before .before .before in
     let at-of-advertise = at-if1 .before in
-    let at-count-of = at-of-advertise .before in
+    let at-of-announcement = at-of-advertise .before in
+    let at-count-of = at-of-announcement .before .before in
     let at-spot-of = at-count-of .before .before .before in
     let a = at-spot-of .before .before .before .before .before .before .before .before .before .before .before .args in
+    let short = ap (ltb (length (a .outbox .now))) (sym (at-of-announcement .of-announcement .ensures [] (a .numbers .now) (a .texts .now) (a .name .now) (a .service .now) (a .location .now) (length (a .outbox .now)) .1)) in
     let t = engine (a .head .now) (a .links .now) [] (a .numbers .now) (a .texts .now) in
     let call = Advertise (a .name .now) (a .service .now) (a .location .now) (length (a .outbox .now)) in
-    let p = cleared (held t .context) (namesOf (held t) call) call (sym (at-of-advertise .of-advertise .ensures _ _ _ (sym (at-spot-of .spot-of .ensures .known)) (names-length (a .head .now) (a .numbers .now) (a .texts .now) ∙ sym (at-count-of .count-of .ensures)) refl) ∙ at-if1 .if1 .left) in
+    let p = cleared (held t .context) (namesOf (held t .advertisements)) call (sym (at-of-advertise .of-advertise .ensures _ _ _ (sym (at-spot-of .spot-of .ensures .known)) (names-length (a .head .now) (a .numbers .now) (a .texts .now) ∙ sym (at-count-of .count-of .ensures)) short) ∙ at-if1 .if1 .left) in
     let over₂ = or-false (over nameMax (a .name .now) || over typeMax (a .service .now)) (over locationMax (a .location .now)) (p textOverSize) in
     let over₁ = or-false (over nameMax (a .name .now)) (over typeMax (a .service .now)) (over₂ .0) in (
       enough t call (a .outbox .now) (p outboxShort)
@@ -70,7 +78,7 @@ send-alive-requires c κs =
 
 dropped-at-requires : tie.Need-dropped-at-requires
 dropped-at-requires c κs =
-    let at-spot-of = c .before .before .before .before .before .before .before .before .before .before .before .before .before .before .before .before in
+    let at-spot-of = c .before .before .before .before .before .before .before .before .before .before .before .before .before .before .before .before .before .before in
     let a = at-spot-of .before .before .before .before .before .before .before .before .before .before .before .args in
     let at = lending.spot-lt (a .head .now) (a .numbers .now) (a .texts .now) (a .name .now) (at-spot-of .spot-of .result) (at-spot-of .spot-of .ensures) in
     (omega arith, λ k. let b = at k in omega arith)
@@ -80,16 +88,18 @@ unfolding checks namesOf held
 enter-requires c κs =
     let at-if1 = c .before .before .before .before .before .before .before .before .before .before .before .before .before .before .before .before in
     let at-of-advertise = at-if1 .before in
-    let at-count-of = at-of-advertise .before in
+    let at-of-announcement = at-of-advertise .before in
+    let at-count-of = at-of-announcement .before .before in
     let at-spot-of = at-count-of .before .before .before in
     let a = at-spot-of .before .before .before .before .before .before .before .before .before .before .before .args in
+    let short = ap (ltb (length (a .outbox .now))) (sym (at-of-announcement .of-announcement .ensures [] (a .numbers .now) (a .texts .now) (a .name .now) (a .service .now) (a .location .now) (length (a .outbox .now)) .1)) in
     let t = engine (a .head .now) (a .links .now) [] (a .numbers .now) (a .texts .now) in
     let call = Advertise (a .name .now) (a .service .now) (a .location .now) (length (a .outbox .now)) in
-    let p = cleared (held t .context) (namesOf (held t) call) call (sym (at-of-advertise .of-advertise .ensures _ _ _ (sym (at-spot-of .spot-of .ensures .known)) (names-length (a .head .now) (a .numbers .now) (a .texts .now) ∙ sym (at-count-of .count-of .ensures)) refl) ∙ at-if1 .if1 .left) in
+    let p = cleared (held t .context) (namesOf (held t .advertisements)) call (sym (at-of-advertise .of-advertise .ensures _ _ _ (sym (at-spot-of .spot-of .ensures .known)) (names-length (a .head .now) (a .numbers .now) (a .texts .now) ∙ sym (at-count-of .count-of .ensures)) short) ∙ at-if1 .if1 .left) in
     let over₂ = or-false (over nameMax (a .name .now) || over typeMax (a .service .now)) (over locationMax (a .location .now)) (p textOverSize) in
     let over₁ = or-false (over nameMax (a .name .now)) (over typeMax (a .service .now)) (over₂ .0) in
-    let numbers : length (a .numbers .now) ≡ numbersSize = omega arith in
-    let texts : length (a .texts .now) ≡ textsSize = omega arith in (
+    let numbers : length (a .numbers .now) ≡ numbersSize = omega (arith, at-spot-of .before .before .before .spot-of-arg4 .given .0) in
+    let texts : length (a .texts .now) ≡ textsSize = omega (arith, at-spot-of .before .spot-of-arg6 .given .0) in (
       omega arith,
       (numbers, texts),
       at-spot-of .spot-of .ensures,
@@ -121,12 +131,14 @@ returns-2 c searches =
     let at-of-up-links = at-send-alive .before .before .before in
     let at-if1 = at-of-up-links .before .before .before .before in
     let at-of-advertise = at-if1 .before in
-    let at-count-of = at-of-advertise .before in
+    let at-of-announcement = at-of-advertise .before in
+    let at-count-of = at-of-announcement .before .before in
     let at-count-of-arg2 = at-count-of .before in
     let at-spot-of = at-count-of-arg2 .before .before in
     let a = at-spot-of .before .before .before .before .before .before .before .before .before .before .before .args in
+    let short = ap (ltb (length (a .outbox .now))) (sym (at-of-announcement .of-announcement .ensures searches (a .numbers .now) (a .texts .now) (a .name .now) (a .service .now) (a .location .now) (length (a .outbox .now)) .1)) in
     let size : length (a .head .now) ≡ headPlaces = omega (arith, at-count-of-arg2 .count-of-arg2 .given .0) in
-    lending.done-answers (engine (a .head .now) (a .links .now) searches (a .numbers .now) (a .texts .now)) _ (Advertise (a .name .now) (a .service .now) (a .location .now) (length (a .outbox .now))) (at-send-alive .send-alive .result) _ _ (sym (at-of-advertise .of-advertise .ensures _ _ _ (sym (at-spot-of .spot-of .ensures .known)) (names-length (a .head .now) (a .numbers .now) (a .texts .now) ∙ sym (at-count-of .count-of .ensures)) refl) ∙ at-if1 .if1 .left)
+    lending.done-answers (engine (a .head .now) (a .links .now) searches (a .numbers .now) (a .texts .now)) _ (Advertise (a .name .now) (a .service .now) (a .location .now) (length (a .outbox .now))) (at-send-alive .send-alive .result) _ _ (sym (at-of-advertise .of-advertise .ensures _ _ _ (sym (at-spot-of .spot-of .ensures .known)) (names-length (a .head .now) (a .numbers .now) (a .texts .now) ∙ sym (at-count-of .count-of .ensures)) short) ∙ at-if1 .if1 .left)
     (lending.names-changed (a .head .now) (a .links .now) searches (a .numbers .now) (a .texts .now) size (at-enter .enter .result) _ (at-set-count .set-count .ensures) (at-enter .enter .ensures))
     (c .before .dropping .ensures .0 ∙ ap drops (at-dropped-at .dropped-at .ensures ∙ lending.dropped-is (a .head .now) (a .numbers .now) (a .texts .now) (a .name .now) (at-spot-of .spot-of .result) (at-spot-of .spot-of .ensures)) ∙ sym (answering.plus-zeros (drops _))) (c .before .dropping .ensures .1)
     (answering.sent-as (at-send-alive .send-alive .ensures) (ap (λ (l : List ℕ). map (λ source. NotifyFrom source (a .service .now) (a .name .now) (a .location .now)) l) (at-of-up-links .of-up-links .ensures .held)))
@@ -138,6 +150,7 @@ advertise-spec =
     (tie.spec
     spot-of-requires
     count-of-requires
+    of-announcement-requires
     of-advertise-requires
     refused-requires
     returns

@@ -1,27 +1,13 @@
--- `calls::handle_timeout` meets its contract: refused, or idle before the instant to be polled at, or with the refresh records and the due replies sent, the replies ended and the timer rolled.
-use mathlib.Core.Path.{_∙_, _≡_, ap, refl, sym}
-use mathlib.Core.List.{List}
+-- `calls::handle_timeout` meets its contract: refused by a late time, or idle before the instant to be polled at, or refused by a short outbox, or served.
+use mathlib.Core.Path.{_∙_, ap, sym}
 use Prim.Native.Nat.{_≤_, _<_}
-use Rattle.engine.proofs.Bound.{enough}
-use Rattle.engine.proofs.Accepted.{cleared}
-use Rattle.engine.proofs.NothingDue.{idle-done, idle-counts, idle-sent}
-use Rattle.engine.proofs.Timer.{timer-accepted}
-use Rattle.engine.specs.Arrays.{headPlaces, held, linksIn, namesIn, searchesIn, seedIn, engine, timerIn}
-use Rattle.engine.specs.Calls.{Timeout, acts}
-use Rattle.engine.specs.Engine.{namesOf, poll, notifies, refusalOf}
-use Rattle.engine.specs.Held.{Advertisement, holding}
-use Rattle.engine.specs.Links.{contextAfter}
-use Rattle.engine.specs.Records.{records, refreshRecords, timeoutOn}
-use Rattle.engine.specs.RefreshTimer.{timerStep}
-use Rattle.engine.specs.Refusals.{timeLate, outboxShort, checks}
-use Rattle.engine.specs.Replies.{aloneAt, groupAt, result, results, sumOf}
-use Rattle.engine.specs.Sizes.{timeMax}
-use Rattle.engine.specs.Outcomes.{sends}
+use Rattle.engine.proofs.NothingDue.{idle-done, idle-counts, idle-sent, idle-accepted}
+use Rattle.engine.specs.Arrays.{held, engine}
+use Rattle.engine.specs.Calls.{Timeout}
+use Rattle.engine.specs.Engine.{needOf, poll, notifies}
+use Rattle.engine.specs.Refusals.{outboxShort}
 use Rattle.engine.specs.declared.answer.Answer.{Answer}
-use Rattle.engine.specs.declared.refresh_timer.RefreshTimer.{RefreshTimer}
 use borrow.Author.Needs.{needs}
-use borrow.Author.Tests.{ltb-false}
-use lib.Dec.{leb}
 use lib.ListN.{length}
 use native.Mathlib.Omega.{arith}
 use Rattle.engine.proofs.Answering as answering
@@ -29,19 +15,22 @@ use Rattle.engine.proofs.Lending as lending
 use Rattle.engine.proofs.calls.handle_timeout.Statement.{statement}
 use Rattle.engine.proofs.calls.handle_timeout.Tie as tie
 
-of-timeout-requires : tie.Need-of-timeout-requires
-of-timeout-requires c κs = search needs
+of-time-requires : tie.Need-of-time-requires
+of-time-requires c κs = search needs
 
 refused-requires : tie.Need-refused-requires
 refused-requires c κs = search needs
 
 returns : tie.Need-returns
-unfolding refusalOf namesOf
 returns c =
     let at-if1 = c .before .before .before .before .before in
-    let at-of-timeout = at-if1 .before in
-    let a = at-of-timeout .before .before .args in
-    lending.refused-answers (engine (a .head .now) (a .links .now) (a .searches .now) (a .numbers .now) (a .texts .now)) (Timeout (a .time) (length (a .outbox .now))) _ _ (at-of-timeout .of-timeout .result) (sym (at-of-timeout .of-timeout .ensures _ _ _ refl)) (at-if1 .if1 .taken) (c .refused .ensures _ _ _)
+    let at-of-time = at-if1 .before in
+    let a = at-of-time .before .before .args in
+    let t = engine (a .head .now) (a .links .now) (a .searches .now) (a .numbers .now) (a .texts .now) in
+    let room = length (a .outbox .now) in
+    let number = at-of-time .of-time .ensures .0 in
+    lending.refused-answers t (Timeout (a .time) room) _ _ (at-of-time .of-time .result)
+    (answering.late-timeout (held t) (a .time) room (λ z. at-if1 .if1 .taken (number ∙ z)) ∙ sym number) (at-if1 .if1 .taken) (c .refused .ensures _ _ _)
 
 nothing-requires : tie.Need-nothing-requires
 nothing-requires c κs = search needs
@@ -50,110 +39,72 @@ accepted-requires : tie.Need-accepted-requires
 accepted-requires c κs = search needs
 
 returns-2 : tie.Need-returns-2
-unfolding refusalOf namesOf notifies
+unfolding notifies
 returns-2 c =
     let at-accepted = c .before .before in
     let at-nothing = at-accepted .before in
     let at-if1 = at-nothing .before .before .before .before .before in
-    let at-of-timeout = at-if1 .before in
-    let a = at-of-timeout .before .before .args in
+    let at-of-time = at-if1 .before in
+    let a = at-of-time .before .before .args in
     let t = engine (a .head .now) (a .links .now) (a .searches .now) (a .numbers .now) (a .texts .now) in
     let room = length (a .outbox .now) in
     let answer = at-accepted .accepted .ensures (a .links .now) (a .searches .now) (a .texts .now) in
     let early : a .time < poll (held t) = omega (arith, c .if2 .taken, ap (λ (x : Answer). x .poll) answer) in
-    lending.done-answers t t (Timeout (a .time) room) 0 _ _ (sym (at-of-timeout .of-timeout .ensures _ _ _ refl) ∙ at-if1 .if1 .left) (idle-done (held t) (a .time) room early)
+    let timely = sym (at-of-time .of-time .ensures .0) ∙ at-if1 .if1 .left in
+    lending.done-answers t t (Timeout (a .time) room) 0 _ _ (idle-accepted (held t) (a .time) room timely early) (idle-done (held t) (a .time) room early)
     (at-nothing .nothing .ensures .0 ∙ idle-counts (held t) (a .time) room early) (at-nothing .nothing .ensures .1) (idle-sent (held t) (a .time) room (a .outbox .now) early) answer
 
-of-up-links-requires : tie.Need-of-up-links-requires
-of-up-links-requires c κs = search needs
+of-timeout-requires : tie.Need-of-timeout-requires
+of-timeout-requires c κs = search needs
 
-timer-in-requires : tie.Need-timer-in-requires
-timer-in-requires c κs = search needs
-
-send-timeout-requires : tie.Need-send-timeout-requires
-unfolding checks namesOf held records refreshRecords
-send-timeout-requires c κs =
-    let at-if1 = c .before .before .before .before .before .before .before .before .before .before .before .before .before .before .before .before .before .before .before .before .before .before .before .before in
-    let at-of-timeout = at-if1 .before in
-    let a = at-of-timeout .before .before .args in
-    let t = engine (a .head .now) (a .links .now) (a .searches .now) (a .numbers .now) (a .texts .now) in
-    let call = Timeout (a .time) (length (a .outbox .now)) in
-    let p = cleared (held t .context) (namesOf (held t) call) call (sym (at-of-timeout .of-timeout .ensures _ _ _ refl) ∙ at-if1 .if1 .left) in
-    let at-timer-in = c .before .before .before .before .before .before .before .before in
-    let up = at-timer-in .before .before .before .before .of-up-links .ensures .held in
-    let room =
-    enough t call (a .outbox .now) (p outboxShort)
-    (λ i. timeoutOn (up i) (leb (at-timer-in .timer-in .ensures i .«next_salvo») (a .time)) (a .time) (searchesIn (a .head .now) (a .searches .now)) (namesIn (a .head .now) (a .numbers .now) (a .texts .now)))
-    in
-    search needs
-
-serve-all-requires : tie.Need-serve-all-requires
-serve-all-requires c κs = search needs
-
-rolled-requires : tie.Need-rolled-requires
-rolled-requires c κs = search needs
-
-set-timer-requires : tie.Need-set-timer-requires
-set-timer-requires c κs = search needs
-
-sending-requires : tie.Need-sending-requires
-sending-requires c κs = search needs
-
-accepted-requires-2 : tie.Need-accepted-requires-2
-accepted-requires-2 c κs = search needs
-
-same-length : tie.Need-same-length
-same-length c = c .before .before .before .before .before .before .before .before .before .before .before .before .before .before .before .send-timeout .kept .0
+refused-requires-2 : tie.Need-refused-requires-2
+refused-requires-2 c κs = search needs
 
 returns-3 : tie.Need-returns-3
-unfolding refusalOf namesOf held contextAfter acts results records notifies result checks refreshRecords
 returns-3 c =
-    let at-set-timer = c .before .before .before .before .before .before in
-    let at-rolled = at-set-timer .before in
-    let at-serve-all = at-rolled .before .before in
-    let at-send-timeout = at-serve-all .before .before .before .before .before .before in
-    let at-timer-in = at-send-timeout .before .before .before .before .before .before .before .before .before in
-    let at-timer-in-arg2 = at-timer-in .before in
-    let at-of-up-links = at-timer-in-arg2 .before .before .before in
-    let at-if1 = at-of-up-links .before .before .before .before .before .before .before .before .before .before .before .before in
-    let at-of-timeout = at-if1 .before in
-    let a = at-of-timeout .before .before .args in
-    let size : length (a .head .now) ≡ headPlaces = omega (arith, at-timer-in-arg2 .timer-in-arg2 .given .0) in
+    let at-if3 = c .before .before .before .before .before in
+    let at-of-timeout = at-if3 .before in
+    let at-if1 = at-of-timeout .before .before .before .before .before .before .before .before .before .before .before in
+    let at-of-time = at-if1 .before in
+    let a = at-of-time .before .before .args in
     let t = engine (a .head .now) (a .links .now) (a .searches .now) (a .numbers .now) (a .texts .now) in
-    let call = Timeout (a .time) (length (a .outbox .now)) in
-    let p = cleared (held t .context) (namesOf (held t) call) call (sym (at-of-timeout .of-timeout .ensures _ _ _ refl) ∙ at-if1 .if1 .left) in
-    let head = a .head .now in
-    let names = namesIn head (a .numbers .now) (a .texts .now) in
-    let time : a .time ≤ timeMax = omega (arith, ltb-false timeMax (a .time) (p timeLate)) in
-    let timer : at-rolled .rolled .result ≡ timerStep (timerIn head) (a .time) =
-    at-rolled .rolled .ensures ∙ timer-accepted (a .time) (at-timer-in .timer-in .result) (timerStep (at-timer-in .timer-in .result) (a .time)) time ∙ ap (λ (x : RefreshTimer). timerStep x (a .time)) (at-timer-in .timer-in .ensures)
-    in
-    let s = at-serve-all .serve-all .ensures (a .texts .now) in
-    lending.done-answers t _ call (at-send-timeout .send-timeout .result) _ _ (sym (at-of-timeout .of-timeout .ensures _ _ _ refl) ∙ at-if1 .if1 .left)
-    (lending.timer-changed head (a .links .now) (a .searches .now) _ (a .texts .now) size (at-rolled .rolled .result) (timerStep (timerIn head) (a .time)) (at-set-timer .set-timer .ensures) timer (lending.step-keeps head (a .time))
-    ∙ ap (λ (l : List Advertisement). holding (seedIn head) (timerStep (timerIn head) (a .time)) (linksIn head (a .links .now)) (searchesIn head (a .searches .now)) l) (s .table))
-    (c .before .sending .ensures .0 ∙ (λ i. sends (s .first i) (s .second i)) ∙ sym (answering.plus-zeros (sends (sumOf (aloneAt (a .time)) names) (sumOf (groupAt (a .time)) names)))) (c .before .sending .ensures .1)
-    (answering.sent-as (at-send-timeout .send-timeout .ensures)
-    (λ i. timeoutOn (at-of-up-links .of-up-links .ensures .held i) (leb (at-timer-in .timer-in .ensures i .«next_salvo») (a .time)) (a .time) (searchesIn head (a .searches .now)) names))
-    (c .accepted2 .ensures _ _ _)
+    let room = length (a .outbox .now) in
+    let timely = sym (at-of-time .of-time .ensures .0) ∙ at-if1 .if1 .left in
+    let short : room < needOf (held t) (Timeout (a .time) room) = omega (arith, at-if3 .if3 .taken, at-of-timeout .of-timeout .ensures (a .texts .now) room) in
+    lending.refused-answers t (Timeout (a .time) room) _ _ outboxShort (answering.short-timeout (held t) (a .time) room timely short) (λ z. omega arith) (c .refused2 .ensures _ _ _)
+
+serve-due-requires : tie.Need-serve-due-requires
+serve-due-requires c κs =
+    let at-if3 = c .before .before .before in
+    let at-of-timeout = at-if3 .before in
+    let at-if1 = at-of-timeout .before .before .before .before .before .before .before .before .before .before .before in
+    let at-of-time = at-if1 .before in
+    let a = at-of-time .before .before .args in
+    let t = engine (a .head .now) (a .links .now) (a .searches .now) (a .numbers .now) (a .texts .now) in
+    let room = length (a .outbox .now) in
+    let timely = sym (at-of-time .of-time .ensures .0) ∙ at-if1 .if1 .left in
+    let roomy : needOf (held t) (Timeout (a .time) room) ≤ room = omega (arith, at-if3 .if3 .left, at-of-timeout .of-timeout .ensures (a .texts .now) room) in
+    answering.roomy-timeout (held t) (a .time) room timely roomy
+
+same-length : tie.Need-same-length
+same-length c = search needs
+
+returns-4 : tie.Need-returns-4
+returns-4 c = c .before .before .serve-due .ensures
 
 pub handle-timeout-spec : {M : Type 1} → statement M
 handle-timeout-spec =
     tie.close
     (tie.spec
-    of-timeout-requires
+    of-time-requires
     refused-requires
     returns
     nothing-requires
     accepted-requires
     returns-2
-    of-up-links-requires
-    timer-in-requires
-    send-timeout-requires
-    serve-all-requires
-    rolled-requires
-    set-timer-requires
-    sending-requires
-    accepted-requires-2
+    of-timeout-requires
+    refused-requires-2
+    returns-3
+    serve-due-requires
     same-length
-    returns-3)
+    returns-4)

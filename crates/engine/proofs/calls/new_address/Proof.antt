@@ -12,6 +12,7 @@ use Rattle.engine.specs.Records.{addressRecords, allFrom, records}
 use Rattle.engine.specs.Refusals.{outboxShort, linksFull, checks}
 use Rattle.engine.specs.Replies.{results}
 use borrow.Author.Needs.{needs}
+use lib.Dec.{ltb}
 use lib.ListN.{length}
 use native.Mathlib.Omega.{arith}
 use Rattle.engine.proofs.Answering as answering
@@ -31,6 +32,9 @@ count-of-requires c κs = search needs
 of-new-address-requires : tie.Need-of-new-address-requires
 of-new-address-requires c κs = search needs
 
+of-new-address-requires-2 : tie.Need-of-new-address-requires-2
+of-new-address-requires-2 c κs = search needs
+
 refused-requires : tie.Need-refused-requires
 refused-requires c κs = search needs
 
@@ -38,12 +42,14 @@ returns : tie.Need-returns
 unfolding refusalOf namesOf held
 returns c =
     let at-if1 = c .before .before .before .before in
-    let at-of-new-address = at-if1 .before in
-    let at-count-of = at-of-new-address .before in
+    let at-of-new-address2 = at-if1 .before in
+    let at-of-new-address = at-of-new-address2 .before in
+    let at-count-of = at-of-new-address .before .before .before in
     let at-is-stored = at-count-of .before in
     let at-lookup = at-is-stored .before .before in
     let a = at-lookup .before .before .before .before .before .before .before .args in
-    lending.refused-answers (engine (a .head .now) (a .links .now) (a .searches .now) (a .numbers .now) (a .texts .now)) (NewAddress (a .index) (a .address .now) (length (a .outbox .now))) _ _ (at-of-new-address .of-new-address .result) (sym (at-of-new-address .of-new-address .ensures _ _ _ (sym (at-is-stored .is-stored .ensures (a .index) (linksIn (a .head .now) (a .links .now)) (at-lookup .lookup .ensures))) (sym (at-count-of .count-of .ensures ∙ ap length (at-lookup .lookup .ensures .addresses))) refl)) (at-if1 .if1 .taken) (c .refused .ensures _ _ _)
+    let short = ap (ltb (length (a .outbox .now))) (sym (at-of-new-address .of-new-address .ensures (a .numbers .now) (a .texts .now) (length (a .outbox .now)))) in
+    lending.refused-answers (engine (a .head .now) (a .links .now) (a .searches .now) (a .numbers .now) (a .texts .now)) (NewAddress (a .index) (a .address .now) (length (a .outbox .now))) _ _ (at-of-new-address2 .of-new-address2 .result) (sym (at-of-new-address2 .of-new-address2 .ensures _ _ _ (sym (at-is-stored .is-stored .ensures (a .index) (linksIn (a .head .now) (a .links .now)) (at-lookup .lookup .ensures))) (sym (at-count-of .count-of .ensures ∙ ap length (at-lookup .lookup .ensures .addresses))) short)) (at-if1 .if1 .taken) (c .refused .ensures _ _ _)
 
 number-of-requires : tie.Need-number-of-requires
 number-of-requires c κs = search needs
@@ -53,14 +59,16 @@ unfolding checks namesOf held records addressRecords
 send-if-stored-requires c κs =
     let at-send-if-stored-arg3 = c .before .before .before in
     let at-if1 = at-send-if-stored-arg3 .before .before .before .before .before in
-    let at-of-new-address = at-if1 .before in
-    let at-count-of = at-of-new-address .before in
+    let at-of-new-address2 = at-if1 .before in
+    let at-of-new-address = at-of-new-address2 .before in
+    let at-count-of = at-of-new-address .before .before .before in
     let at-is-stored = at-count-of .before in
     let at-lookup = at-is-stored .before .before in
     let a = at-lookup .before .before .before .before .before .before .before .args in
+    let short = ap (ltb (length (a .outbox .now))) (sym (at-of-new-address .of-new-address .ensures (a .numbers .now) (a .texts .now) (length (a .outbox .now)))) in
     let t = engine (a .head .now) (a .links .now) (a .searches .now) (a .numbers .now) (a .texts .now) in
     let call = NewAddress (a .index) (a .address .now) (length (a .outbox .now)) in
-    let p = cleared (held t .context) (namesOf (held t) call) call (sym (at-of-new-address .of-new-address .ensures _ _ _ (sym (at-is-stored .is-stored .ensures (a .index) (linksIn (a .head .now) (a .links .now)) (at-lookup .lookup .ensures))) (sym (at-count-of .count-of .ensures ∙ ap length (at-lookup .lookup .ensures .addresses))) refl) ∙ at-if1 .if1 .left) in
+    let p = cleared (held t .context) (namesOf (held t .advertisements)) call (sym (at-of-new-address2 .of-new-address2 .ensures _ _ _ (sym (at-is-stored .is-stored .ensures (a .index) (linksIn (a .head .now) (a .links .now)) (at-lookup .lookup .ensures))) (sym (at-count-of .count-of .ensures ∙ ap length (at-lookup .lookup .ensures .addresses))) short) ∙ at-if1 .if1 .left) in
     let sends = allFrom (searchesIn (a .head .now) (a .searches .now)) (namesIn (a .head .now) (a .numbers .now) (a .texts .now)) in
     let room =
     enough t call (a .outbox .now) (p outboxShort)
@@ -91,17 +99,19 @@ returns-2 c =
     let at-send-if-stored = at-address-stored .before .before .before .before .before .before in
     let at-number-of = at-send-if-stored .before .before .before .before .before .before .before .before in
     let at-if1 = at-number-of .before in
-    let at-of-new-address = at-if1 .before in
-    let at-count-of = at-of-new-address .before in
+    let at-of-new-address2 = at-if1 .before in
+    let at-of-new-address = at-of-new-address2 .before in
+    let at-count-of = at-of-new-address .before .before .before in
     let at-is-stored = at-count-of .before in
     let at-lookup = at-is-stored .before .before in
     let at-lookup-arg2 = at-lookup .before .before .before in
     let a = at-lookup-arg2 .before .before .before .before .args in
+    let short = ap (ltb (length (a .outbox .now))) (sym (at-of-new-address .of-new-address .ensures (a .numbers .now) (a .texts .now) (length (a .outbox .now)))) in
     let size : length (a .head .now) ≡ headPlaces = omega (arith, at-lookup-arg2 .lookup-arg2 .given .0) in
     let t = engine (a .head .now) (a .links .now) (a .searches .now) (a .numbers .now) (a .texts .now) in
     let call = NewAddress (a .index) (a .address .now) (length (a .outbox .now)) in
-    let number = sym (at-of-new-address .of-new-address .ensures _ _ _ (sym (at-is-stored .is-stored .ensures (a .index) (linksIn (a .head .now) (a .links .now)) (at-lookup .lookup .ensures))) (sym (at-count-of .count-of .ensures ∙ ap length (at-lookup .lookup .ensures .addresses))) refl) ∙ at-if1 .if1 .left in
-    let p = cleared (held t .context) (namesOf (held t) call) call number in
+    let number = sym (at-of-new-address2 .of-new-address2 .ensures _ _ _ (sym (at-is-stored .is-stored .ensures (a .index) (linksIn (a .head .now) (a .links .now)) (at-lookup .lookup .ensures))) (sym (at-count-of .count-of .ensures ∙ ap length (at-lookup .lookup .ensures .addresses))) short) ∙ at-if1 .if1 .left in
+    let p = cleared (held t .context) (namesOf (held t .advertisements)) call number in
     let links = linksIn (a .head .now) (a .links .now) in
     let sends = allFrom (searchesIn (a .head .now) (a .searches .now)) (namesIn (a .head .now) (a .numbers .now) (a .texts .now)) in
     lending.done-answers t _ call (at-send-if-stored .send-if-stored .result) _ _ number
@@ -119,6 +129,7 @@ new-address-spec =
     is-stored-requires
     count-of-requires
     of-new-address-requires
+    of-new-address-requires-2
     refused-requires
     returns
     number-of-requires

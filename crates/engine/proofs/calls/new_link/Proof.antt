@@ -13,6 +13,7 @@ use Rattle.engine.specs.Records.{addressRecords, allFrom, flat, records,
 use Rattle.engine.specs.Refusals.{outboxShort, linksFull, checks}
 use Rattle.engine.specs.Replies.{results}
 use borrow.Author.Needs.{needs}
+use lib.Dec.{ltb}
 use lib.ListN.{length, take}
 use native.Mathlib.Omega.{arith}
 use Rattle.engine.proofs.Answering as answering
@@ -32,6 +33,9 @@ count-of-requires c κs = search needs
 of-new-link-requires : tie.Need-of-new-link-requires
 of-new-link-requires c κs = search needs
 
+of-new-link-requires-2 : tie.Need-of-new-link-requires-2
+of-new-link-requires-2 c κs = search needs
+
 refused-requires : tie.Need-refused-requires
 refused-requires c κs = search needs
 
@@ -39,12 +43,14 @@ returns : tie.Need-returns
 unfolding refusalOf namesOf held
 returns c =
     let at-if1 = c .before .before .before .before in
-    let at-of-new-link = at-if1 .before in
-    let at-count-of = at-of-new-link .before in
+    let at-of-new-link2 = at-if1 .before in
+    let at-of-new-link = at-of-new-link2 .before in
+    let at-count-of = at-of-new-link .before .before .before in
     let at-is-multicast = at-count-of .before .before .before in
     let at-lookup = at-is-multicast .before in
     let a = at-lookup .before .before .before .before .before .before .args in
-    lending.refused-answers (engine (a .head .now) (a .links .now) (a .searches .now) (a .numbers .now) (a .texts .now)) (NewLink (a .index) (a .flags) (a .outcome) (length (a .outbox .now))) _ _ (at-of-new-link .of-new-link .result) (sym (at-of-new-link .of-new-link .ensures _ _ _ (a .flags) (sym (at-is-multicast .is-multicast .ensures)) (sym (at-lookup .lookup .ensures .known)) (lending.links-length (a .head .now) (a .links .now) ∙ sym (at-count-of .count-of .ensures)) refl)) (at-if1 .if1 .taken) (c .refused .ensures _ _ _)
+    let short = ap (ltb (length (a .outbox .now))) (sym (at-of-new-link .of-new-link .ensures (a .numbers .now) (a .texts .now) (a .outcome) (length (a .outbox .now)))) in
+    lending.refused-answers (engine (a .head .now) (a .links .now) (a .searches .now) (a .numbers .now) (a .texts .now)) (NewLink (a .index) (a .flags) (a .outcome) (length (a .outbox .now))) _ _ (at-of-new-link2 .of-new-link2 .result) (sym (at-of-new-link2 .of-new-link2 .ensures _ _ _ (a .flags) (sym (at-is-multicast .is-multicast .ensures)) (sym (at-lookup .lookup .ensures .known)) (lending.links-length (a .head .now) (a .links .now) ∙ sym (at-count-of .count-of .ensures)) short)) (at-if1 .if1 .taken) (c .refused .ensures _ _ _)
 
 turns-up-requires : tie.Need-turns-up-requires
 turns-up-requires c κs = search needs
@@ -54,14 +60,16 @@ unfolding checks namesOf held records addressRecords
 send-if-up-requires c κs =
     let at-send-if-up-arg3 = c .before .before .before in
     let at-if1 = at-send-if-up-arg3 .before .before .before .before .before .before in
-    let at-of-new-link = at-if1 .before in
-    let at-count-of = at-of-new-link .before in
+    let at-of-new-link2 = at-if1 .before in
+    let at-of-new-link = at-of-new-link2 .before in
+    let at-count-of = at-of-new-link .before .before .before in
     let at-is-multicast = at-count-of .before .before .before in
     let at-lookup = at-is-multicast .before in
     let a = at-lookup .before .before .before .before .before .before .args in
+    let short = ap (ltb (length (a .outbox .now))) (sym (at-of-new-link .of-new-link .ensures (a .numbers .now) (a .texts .now) (a .outcome) (length (a .outbox .now)))) in
     let t = engine (a .head .now) (a .links .now) (a .searches .now) (a .numbers .now) (a .texts .now) in
     let call = NewLink (a .index) (a .flags) (a .outcome) (length (a .outbox .now)) in
-    let p = cleared (held t .context) (namesOf (held t) call) call (sym (at-of-new-link .of-new-link .ensures _ _ _ (a .flags) (sym (at-is-multicast .is-multicast .ensures)) (sym (at-lookup .lookup .ensures .known)) (lending.links-length (a .head .now) (a .links .now) ∙ sym (at-count-of .count-of .ensures)) refl) ∙ at-if1 .if1 .left) in
+    let p = cleared (held t .context) (namesOf (held t .advertisements)) call (sym (at-of-new-link2 .of-new-link2 .ensures _ _ _ (a .flags) (sym (at-is-multicast .is-multicast .ensures)) (sym (at-lookup .lookup .ensures .known)) (lending.links-length (a .head .now) (a .links .now) ∙ sym (at-count-of .count-of .ensures)) short) ∙ at-if1 .if1 .left) in
     let links = linksIn (a .head .now) (a .links .now) in
     let sends = flat (allFrom (searchesIn (a .head .now) (a .searches .now)) (namesIn (a .head .now) (a .numbers .now) (a .texts .now))) in
     let room =
@@ -94,17 +102,19 @@ returns-2 c =
     let at-send-if-up = at-link-stored .before .before .before .before .before .before in
     let at-turns-up = at-send-if-up .before .before .before .before .before .before .before in
     let at-if1 = at-turns-up .before .before .before in
-    let at-of-new-link = at-if1 .before in
-    let at-count-of = at-of-new-link .before in
+    let at-of-new-link2 = at-if1 .before in
+    let at-of-new-link = at-of-new-link2 .before in
+    let at-count-of = at-of-new-link .before .before .before in
     let at-is-multicast = at-count-of .before .before .before in
     let at-lookup = at-is-multicast .before in
     let at-lookup-arg2 = at-lookup .before .before .before in
     let a = at-lookup-arg2 .before .before .before .args in
+    let short = ap (ltb (length (a .outbox .now))) (sym (at-of-new-link .of-new-link .ensures (a .numbers .now) (a .texts .now) (a .outcome) (length (a .outbox .now)))) in
     let size : length (a .head .now) ≡ headPlaces = omega (arith, at-lookup-arg2 .lookup-arg2 .given .0) in
     let t = engine (a .head .now) (a .links .now) (a .searches .now) (a .numbers .now) (a .texts .now) in
     let call = NewLink (a .index) (a .flags) (a .outcome) (length (a .outbox .now)) in
-    let number = sym (at-of-new-link .of-new-link .ensures _ _ _ (a .flags) (sym (at-is-multicast .is-multicast .ensures)) (sym (at-lookup .lookup .ensures .known)) (lending.links-length (a .head .now) (a .links .now) ∙ sym (at-count-of .count-of .ensures)) refl) ∙ at-if1 .if1 .left in
-    let p = cleared (held t .context) (namesOf (held t) call) call number in
+    let number = sym (at-of-new-link2 .of-new-link2 .ensures _ _ _ (a .flags) (sym (at-is-multicast .is-multicast .ensures)) (sym (at-lookup .lookup .ensures .known)) (lending.links-length (a .head .now) (a .links .now) ∙ sym (at-count-of .count-of .ensures)) short) ∙ at-if1 .if1 .left in
+    let p = cleared (held t .context) (namesOf (held t .advertisements)) call number in
     let links = linksIn (a .head .now) (a .links .now) in
     let sends = flat (allFrom (searchesIn (a .head .now) (a .searches .now)) (namesIn (a .head .now) (a .numbers .now) (a .texts .now))) in
     lending.done-answers t _ call (at-send-if-up .send-if-up .result) _ _ number
@@ -123,6 +133,7 @@ new-link-spec =
     is-multicast-requires
     count-of-requires
     of-new-link-requires
+    of-new-link-requires-2
     refused-requires
     returns
     turns-up-requires

@@ -56,7 +56,7 @@ searched-requires c κs =
     let a = start .args in
     let t = engine (a .head .now) [] [] (a .numbers .now) (a .texts .now) in
     let call = Datagram (a .time) (a .sender) (a .receiver) (a .datagram .now) in
-    let p = passed (held t .context) (namesOf (held t) call) call (sym (at-of-search .of-search .ensures _ _ (a .sender) (a .receiver) (a .datagram .now) (a .place) (start .pre .3) (sym (ap length (at-field .field .ensures)))) ∙ at-if1 .if1 .left) in
+    let p = passed (held t .context) (namesOf (held t .advertisements)) call (sym (at-of-search .of-search .ensures _ _ (a .sender) (a .receiver) (a .datagram .now) (a .place) (start .pre .3) (sym (ap length (at-field .field .ensures)))) ∙ at-if1 .if1 .left) in
     let q = subst (λ (p : ParseAnswer). Passed (searchChecks (a .datagram .now) (p .message))) (start .pre .3) (p .1 .1) in
     (start .pre .0, start .pre .1, omega (arith, ltb-false typeMax (length (fieldAt (a .datagram .now) (a .place))) (q .1 .0), ap length (at-field .field .ensures)), start .pre .2)
 

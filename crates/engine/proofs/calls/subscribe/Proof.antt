@@ -15,6 +15,7 @@ use Rattle.engine.specs.Replies.{results}
 use Rattle.message.specs.Build.{typeMax}
 use borrow.Author.Needs.{needs}
 use borrow.Author.Tests.{ltb-false}
+use lib.Dec.{ltb}
 use lib.ListN.{length}
 use native.Mathlib.Omega.{arith}
 use Rattle.engine.proofs.Answering as answering
@@ -24,6 +25,9 @@ use Rattle.engine.proofs.calls.subscribe.Tie as tie
 
 count-of-requires : tie.Need-count-of-requires
 count-of-requires c κs = search needs
+
+of-announcement-requires : tie.Need-of-announcement-requires
+of-announcement-requires c κs = search needs
 
 of-subscribe-requires : tie.Need-of-subscribe-requires
 of-subscribe-requires c κs = search needs
@@ -36,9 +40,11 @@ unfolding refusalOf namesOf held
 returns c texts =
     let at-if1 = c .before .before .before .before in
     let at-of-subscribe = at-if1 .before in
-    let at-count-of = at-of-subscribe .before in
+    let at-of-announcement = at-of-subscribe .before in
+    let at-count-of = at-of-announcement .before .before in
     let a = at-count-of .before .before .before .before .before .args in
-    lending.refused-answers (engine (a .head .now) (a .links .now) (a .searches .now) (a .numbers .now) texts) (Subscribe (a .service .now) (length (a .outbox .now))) _ _ (at-of-subscribe .of-subscribe .result) (sym (at-of-subscribe .of-subscribe .ensures _ _ _ (lending.searches-length (a .head .now) (a .searches .now) ∙ sym (at-count-of .count-of .ensures)) refl)) (at-if1 .if1 .taken) (c .refused .ensures _ _ _)
+    let short = ap (ltb (length (a .outbox .now))) (sym (at-of-announcement .of-announcement .ensures (a .searches .now) (a .numbers .now) texts [] (a .service .now) [] (length (a .outbox .now)) .0)) in
+    lending.refused-answers (engine (a .head .now) (a .links .now) (a .searches .now) (a .numbers .now) texts) (Subscribe (a .service .now) (length (a .outbox .now))) _ _ (at-of-subscribe .of-subscribe .result) (sym (at-of-subscribe .of-subscribe .ensures _ _ _ (lending.searches-length (a .head .now) (a .searches .now) ∙ sym (at-count-of .count-of .ensures)) short)) (at-if1 .if1 .taken) (c .refused .ensures _ _ _)
 
 of-up-links-requires : tie.Need-of-up-links-requires
 of-up-links-requires c κs = search needs
@@ -48,11 +54,13 @@ unfolding checks namesOf held records
 send-search-requires c κs =
     let at-if1 = c .before .before .before .before .before .before in
     let at-of-subscribe = at-if1 .before in
-    let at-count-of = at-of-subscribe .before in
+    let at-of-announcement = at-of-subscribe .before in
+    let at-count-of = at-of-announcement .before .before in
     let a = at-count-of .before .before .before .before .before .args in
+    let short = ap (ltb (length (a .outbox .now))) (sym (at-of-announcement .of-announcement .ensures (a .searches .now) (a .numbers .now) [] [] (a .service .now) [] (length (a .outbox .now)) .0)) in
     let t = engine (a .head .now) (a .links .now) (a .searches .now) (a .numbers .now) [] in
     let call = Subscribe (a .service .now) (length (a .outbox .now)) in
-    let p = cleared (held t .context) (namesOf (held t) call) call (sym (at-of-subscribe .of-subscribe .ensures _ _ _ (lending.searches-length (a .head .now) (a .searches .now) ∙ sym (at-count-of .count-of .ensures)) refl) ∙ at-if1 .if1 .left) in
+    let p = cleared (held t .context) (namesOf (held t .advertisements)) call (sym (at-of-subscribe .of-subscribe .ensures _ _ _ (lending.searches-length (a .head .now) (a .searches .now) ∙ sym (at-count-of .count-of .ensures)) short) ∙ at-if1 .if1 .left) in
     enough t call (a .outbox .now) (p outboxShort) (ap (λ (l : List ℕ). searchOn l (a .service .now)) (c .before .before .of-up-links .ensures .held))
 
 push-requires : tie.Need-push-requires
@@ -60,11 +68,13 @@ unfolding checks namesOf held
 push-requires c κs =
     let at-if1 = c .before .before .before .before .before .before .before .before .before .before in
     let at-of-subscribe = at-if1 .before in
-    let at-count-of = at-of-subscribe .before in
+    let at-of-announcement = at-of-subscribe .before in
+    let at-count-of = at-of-announcement .before .before in
     let a = at-count-of .before .before .before .before .before .args in
+    let short = ap (ltb (length (a .outbox .now))) (sym (at-of-announcement .of-announcement .ensures (a .searches .now) (a .numbers .now) [] [] (a .service .now) [] (length (a .outbox .now)) .0)) in
     let t = engine (a .head .now) (a .links .now) (a .searches .now) (a .numbers .now) [] in
     let call = Subscribe (a .service .now) (length (a .outbox .now)) in
-    let p = cleared (held t .context) (namesOf (held t) call) call (sym (at-of-subscribe .of-subscribe .ensures _ _ _ (lending.searches-length (a .head .now) (a .searches .now) ∙ sym (at-count-of .count-of .ensures)) refl) ∙ at-if1 .if1 .left) in (
+    let p = cleared (held t .context) (namesOf (held t .advertisements)) call (sym (at-of-subscribe .of-subscribe .ensures _ _ _ (lending.searches-length (a .head .now) (a .searches .now) ∙ sym (at-count-of .count-of .ensures)) short) ∙ at-if1 .if1 .left) in (
       lending.searches-free (a .head .now) (a .searches .now) (at-count-of .count-of .result) (at-count-of .count-of .ensures) (p tableFull),
       ltb-false typeMax (length (a .service .now)) (p textOverSize),
       omega arith,
@@ -94,13 +104,15 @@ returns-2 c texts =
     let at-of-up-links = at-send-search .before .before .before in
     let at-if1 = at-of-up-links .before .before .before .before in
     let at-of-subscribe = at-if1 .before in
-    let at-count-of = at-of-subscribe .before in
+    let at-of-announcement = at-of-subscribe .before in
+    let at-count-of = at-of-announcement .before .before in
     let a = at-count-of .before .before .before .before .before .args in
+    let short = ap (ltb (length (a .outbox .now))) (sym (at-of-announcement .of-announcement .ensures (a .searches .now) (a .numbers .now) texts [] (a .service .now) [] (length (a .outbox .now)) .0)) in
     let size : length (a .head .now) ≡ headPlaces = omega arith in
     let t = engine (a .head .now) (a .links .now) (a .searches .now) (a .numbers .now) texts in
     let call = Subscribe (a .service .now) (length (a .outbox .now)) in
-    let number = sym (at-of-subscribe .of-subscribe .ensures _ _ _ (lending.searches-length (a .head .now) (a .searches .now) ∙ sym (at-count-of .count-of .ensures)) refl) ∙ at-if1 .if1 .left in
-    let p = cleared (held t .context) (namesOf (held t) call) call number in
+    let number = sym (at-of-subscribe .of-subscribe .ensures _ _ _ (lending.searches-length (a .head .now) (a .searches .now) ∙ sym (at-count-of .count-of .ensures)) short) ∙ at-if1 .if1 .left in
+    let p = cleared (held t .context) (namesOf (held t .advertisements)) call number in
     let free = lending.searches-free (a .head .now) (a .searches .now) (at-count-of .count-of .result) (at-count-of .count-of .ensures) (p tableFull) in
     lending.done-answers t _ call (at-send-search .send-search .result) _ _ number
     (lending.searches-pushed (a .head .now) (a .links .now) (a .searches .now) (a .numbers .now) texts size _ (at-count-of .count-of .result) (a .service .now) (at-set-count .set-count .ensures) (at-count-of .count-of .ensures) free (at-push .push .ensures))
@@ -113,6 +125,7 @@ subscribe-spec =
     tie.close
     (tie.spec
     count-of-requires
+    of-announcement-requires
     of-subscribe-requires
     refused-requires
     returns

@@ -9,7 +9,7 @@ first-requires c κs = search needs
 
 returns : tie.Need-returns
 unfolding refusal checks
-returns c x n room m = rw m (cc, λ name. cc)
+returns c x n room = (λ m. rw m (cc), λ name m. rw m (cc))
 
 pub of-room-spec : {M : Type 1} → statement M
 of-room-spec = tie.close (tie.spec first-requires returns)

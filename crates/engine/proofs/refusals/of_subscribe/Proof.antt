@@ -4,20 +4,17 @@ use borrow.Author.Needs.{needs}
 use Rattle.engine.proofs.refusals.of_subscribe.Statement.{statement}
 use Rattle.engine.proofs.refusals.of_subscribe.Tie as tie
 
-first-requires : tie.Need-first-requires
-first-requires c κs = search needs
+full-or-short-requires : tie.Need-full-or-short-requires
+full-or-short-requires c κs = search needs
 
 is-good-requires : tie.Need-is-good-requires
 is-good-requires c κs = search needs
 
+first-requires : tie.Need-first-requires
+first-requires c κs = search needs
+
 first-requires-2 : tie.Need-first-requires-2
 first-requires-2 c κs = search needs
-
-first-requires-3 : tie.Need-first-requires-3
-first-requires-3 c κs = search needs
-
-first-requires-4 : tie.Need-first-requires-4
-first-requires-4 c κs = search needs
 
 returns : tie.Need-returns
 unfolding refusal checks
@@ -27,9 +24,8 @@ pub of-subscribe-spec : {M : Type 1} → statement M
 of-subscribe-spec =
     tie.close
     (tie.spec
-    first-requires
+    full-or-short-requires
     is-good-requires
+    first-requires
     first-requires-2
-    first-requires-3
-    first-requires-4
     returns)

@@ -1,17 +1,18 @@
 // The claims about the engine as a whole, each the contract of a function that does nothing: the check names them as proved.
-ghost use Prim.Native.Nat.{ℕ};
+ghost use Prim.Native.Nat.{ℕ, _≤_};
 ghost use mathlib.Core.Path.{_≡_};
 ghost use mathlib.Core.Bool.{true};
 ghost use mathlib.Core.List.{List};
 ghost use Rattle.message.specs.RoundTrip.{RoundTrip};
 ghost use lib.ListN.{length};
+ghost use Rattle.engine.specs.Sizes.{outboxSize};
 ghost use Rattle.engine.specs.Held.{Held};
 ghost use Rattle.engine.specs.Calls.{Call};
 ghost use Rattle.engine.specs.Records.{records};
 ghost use Rattle.engine.specs.Layout.{layout};
 ghost use Rattle.engine.specs.Need.{recordCount};
 ghost use Rattle.engine.specs.Engine.{namesOf, needOf};
-ghost use Rattle.engine.specs.Arrays.{Engine};
+ghost use Rattle.engine.specs.Arrays.{Engine, held};
 ghost use Rattle.claims.specs.Claim.{Log, Claim};
 ghost use Rattle.claims.specs.EveryList.{Word, Lent, Logged};
 ghost use Rattle.engine.specs.StarCases.{allHold, starCases};
@@ -51,7 +52,8 @@ pub fn round_trip()
     ensures { λ _. ⌜ RoundTrip ⌝ }
 {}
 
-// Document 02, change 1: the formula counts the records that a call sends, whatever is held, and the room that refusal 2 asks for is their bytes.
+// Document 02, change 1: the formula counts the records that a call sends, whatever is held, and the room that refusal 2 asks for is their bytes; no call on any
+// content of the arrays asks for more than 62,880 of them (document 01, 'Outbox').
 pub fn records_counted()
-    ensures { λ _. ⌜ ((h : Held) (c : Call) → (recordCount (h .context) (namesOf (h .advertisements)) c ≡ length (records (h .context) (h .advertisements) c)) × (needOf h c ≡ length (layout (records (h .context) (h .advertisements) c)))) ⌝ }
+    ensures { λ _. ⌜ ((h : Held) (c : Call) → (recordCount (h .context) (namesOf (h .advertisements)) c ≡ length (records (h .context) (h .advertisements) c)) × (needOf h c ≡ length (layout (records (h .context) (h .advertisements) c)))) × ((e : Engine) (c : Call) → needOf (held e) c ≤ outboxSize) ⌝ }
 {}

@@ -1,5 +1,5 @@
--- How many records a call would write, as a formula, and the bytes that they take, which refusal 2 asks for: document 02, change 1.
--- That a call writes so many is a law (proofs/RecordCount).
+-- How many records a call would write, as a formula, and the bytes that they take, which refusal 2 asks for: document 02, change 1. It names `refresh` and handle_timeout;
+-- for the others the formula follows from what they send (document 01, 'Outbox' and 'Links and addresses'). That a call writes so many is a law (proofs/RecordCount).
 use Prim.Native.Nat.{ℕ, _+_, _*_}
 use mathlib.Core.Bool.{Bool, cond, _&&_}
 use mathlib.Core.List.{List}
@@ -22,10 +22,11 @@ pub record Names : Type 0 where
 abbrev pub upCount : Context → ℕ
 upCount x = length (upAddresses (x .links))
 
--- advertisements plus searches, which count 1 where a subscription is `ssdp:all`
+-- searches count 1 where a subscription is `ssdp:all`
 unfoldable pub searchesCount : List Text → ℕ
 searchesCount ts = cond (anyAll ts) 1 (length ts)
 
+-- advertisements plus searches: what goes out from an address
 abbrev pub entryCount : Context → Names → ℕ
 entryCount x n = n .count + searchesCount (x .subscriptions)
 
@@ -34,12 +35,15 @@ abbrev pub refreshCount : Context → Names → ℕ
 refreshCount x n = entryCount x n * upCount x
 
 unfoldable pub recordCount : Context → Names → Call → ℕ
+-- a held link that turns up: that sum from each of its addresses
 recordCount x n (NewLink index flags outcome room) =
     cond (turnsUp index flags (x .links)) (entryCount x n * length (addressesOf (linkAt index (x .links)))) 0
 recordCount x n (DeletedLink index outcome) = 0
+-- an address that is stored on an up link: that sum from it alone
 recordCount x n (NewAddress index address room) =
     cond (stores index address (x .links) && anyUp (linkAt index (x .links))) (entryCount x n) 0
 recordCount x n (DeletedAddress index address) = 0
+-- a message from each address on an up link; a byebye for a held name alone
 recordCount x n (Subscribe service room) = upCount x
 recordCount x n (Advertise name service location room) = upCount x
 recordCount x n (Deadvertise name room) = cond (n .holds name) (upCount x) 0

@@ -1,2 +1,3 @@
--- The contracts of the exported calls.
+-- The contracts of the exported calls, and of what tells a host their need.
 pub mod Exports
+pub mod NeedContracts

@@ -13,7 +13,7 @@ use text::white::Place;
 pub const OUTBOX_MAX: usize = 300000;
 
 // The first field of a line.
-#[derive(Drop)]
+#[derive(Clone, Copy)]
 pub enum Word {
     Unknown,
     New,
@@ -35,7 +35,7 @@ pub enum Word {
 }
 
 // What a line asks for, with its fields in the line's order. A text is a part of the line.
-#[derive(Drop)]
+#[derive(Clone, Copy)]
 pub enum Command {
     Unreadable,
     // seed, time
@@ -68,7 +68,7 @@ pub enum Command {
 }
 
 // The forms of a line's fields behind its word, in order.
-#[derive(Drop)]
+#[derive(Clone, Copy)]
 pub struct Forms {
     pub first: Form,
     pub second: Form,
@@ -78,7 +78,7 @@ pub struct Forms {
 }
 
 // The fields as they were read, and where a further one would begin.
-#[derive(Drop)]
+#[derive(Clone, Copy)]
 pub struct Data {
     pub first: Datum,
     pub second: Datum,

@@ -9,7 +9,7 @@ use text::{bytes, number};
 
 // What a field holds: no field at all; a number of 16 or 32 bits, or one not above a largest; a dotted address; any text without a tab;
 // the rest of the line; hexadecimal of at most so many bytes.
-#[derive(Drop)]
+#[derive(Clone, Copy)]
 pub enum Form {
     Nothing,
     U16,
@@ -22,7 +22,7 @@ pub enum Form {
 }
 
 // What a field was read as. A text is a part of the line.
-#[derive(Drop)]
+#[derive(Clone, Copy)]
 pub enum Datum {
     Unreadable,
     Nothing,
@@ -33,7 +33,7 @@ pub enum Datum {
 }
 
 // A field as it was read, and where the next one begins: one byte past the line's end if there is none.
-#[derive(Drop)]
+#[derive(Clone, Copy)]
 pub struct Field {
     pub datum: Datum,
     pub next: usize,

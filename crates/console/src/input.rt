@@ -11,7 +11,7 @@ pub const LINE_MAX: usize = 4096;
 
 // What a chunk of the input brings: the line goes on, and so much of it is held; it has ended, with this length, and so many bytes
 // of the chunk are used up; or it has ended and is too long.
-#[derive(Drop)]
+#[derive(Clone, Copy)]
 pub enum Event {
     More(usize),
     Line { len: usize, used: usize },

@@ -11,7 +11,7 @@ use engine::calls;
 use engine::sizes::{Head, Links, Numbers, Searches, Texts};
 
 // What a line gives: whether an engine has begun then, and the answer to print; where nothing was heard, a `?`.
-#[derive(Drop)]
+#[derive(Clone, Copy)]
 pub struct Reply {
     pub begun: bool,
     pub heard: bool,

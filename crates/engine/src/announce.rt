@@ -10,7 +10,7 @@ use crate::outbox::{byebye_on, notify_on, search_on};
 use crate::sizes::SOURCES;
 
 // What is said: a search for a type, that a service is there, that a service goes.
-#[derive(Drop)]
+#[derive(Clone, Copy)]
 pub enum Announcement {
     Search,
     Alive,

@@ -10,7 +10,7 @@ use crate::subscription::Subscribers;
 // What a call answers: its refusal number (0: accepted), the records written, the five counts of the reply ledger that it adds,
 // the replies waiting and the instant to be polled at afterwards, the mask of subscriptions to tell and their number, and the leave outcome.
 #[repr(C)]
-#[derive(Drop)]
+#[derive(Clone, Copy)]
 pub struct Answer {
     pub refusal: u32,
     pub records: usize,
@@ -27,7 +27,7 @@ pub struct Answer {
 }
 
 // What an accepted call counts, and whom it notifies.
-#[derive(Drop)]
+#[derive(Clone, Copy)]
 pub struct Outcome {
     pub matched: usize,
     pub joined: usize,

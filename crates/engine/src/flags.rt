@@ -3,7 +3,7 @@
 ghost use Rattle.std.specs.Prelude.{◌≡◌};
 ghost use Rattle.engine.specs.Flags.{contains, is_up, is_multicast};
 
-#[derive(Drop)]
+#[derive(Clone, Copy)]
 pub struct Flags(pub u32);
 
 impl Flags {

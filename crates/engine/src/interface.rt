@@ -4,7 +4,7 @@ ghost use Rattle.engine.specs.Table.{known};
 use crate::sizes::ADDRESSES;
 
 // A link: its index, whether it is up, and the first `count` of its addresses.
-#[derive(Drop)]
+#[derive(Clone, Copy)]
 pub struct Interface {
     pub index: u32,
     pub up: bool,
@@ -13,7 +13,7 @@ pub struct Interface {
 }
 
 // A link that was looked for: whether it is held, and the link. One that is not held is down and has no addresses.
-#[derive(Drop)]
+#[derive(Clone, Copy)]
 pub struct LinkLookup {
     pub known: bool,
     pub link: Interface,

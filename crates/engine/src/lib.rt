@@ -1,4 +1,5 @@
 // The discovery engine: what is held, and the calls on it. Sockets, clock and interface news stay with the host.
+#![tactic(auto)]
 mod address;
 pub mod advertisement;
 mod announce;

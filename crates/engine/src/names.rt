@@ -27,7 +27,7 @@ use text::bytes::{Ordering, equal, order};
 
 // What searches and timeouts change of an advertisement: its waiting reply, and beside it the type of the answer to a lone searcher. A search puts one in where a
 // reply opens, a timeout takes it out to send it; a step that needs the reply alone takes that. Name, type and location stay in their row.
-#[derive(Drop)]
+#[derive(Clone, Copy)]
 pub struct ActiveAdvertisement {
     pub response_needed: ResponseNeeded,
     pub answer: [u8; TYPE_SIZE],

@@ -22,7 +22,7 @@ use crate::replies::{alone_of, asked_reply, group_of, is_due, opens, sooner_of, 
 use crate::wanted::{Wanted, wanted_of, wants, wants_all};
 
 // How many replies wait, and the earliest of an instant and theirs.
-#[derive(Drop)]
+#[derive(Clone, Copy)]
 pub struct Waits {
     pub waiting: usize,
     pub poll: u64,
@@ -86,7 +86,7 @@ fn open_at(numbers: &mut [u64], texts: &mut [u8], i: usize, all: bool, opened: A
 }
 
 // How many names a search matched, and how many waiting replies it joined.
-#[derive(Drop)]
+#[derive(Clone, Copy)]
 pub struct Asked {
     pub matched: usize,
     pub joined: usize,
@@ -200,7 +200,7 @@ pub(crate) fn searched(
 // ---- a handle_timeout
 
 // How many replies went to lone searchers, and how many to the group.
-#[derive(Drop)]
+#[derive(Clone, Copy)]
 pub struct Served {
     pub alone: usize,
     pub group: usize,

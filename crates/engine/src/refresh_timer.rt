@@ -7,7 +7,7 @@ ghost use Rattle.engine.specs.RefreshTimer.{time_refusal, seed_byte, period, tim
 use crate::refusals::TIME_LATE;
 use crate::sizes::TIME_MAX;
 
-#[derive(Drop)]
+#[derive(Clone, Copy)]
 pub struct RefreshTimer {
     pub random_seed: u32,
     pub next_salvo: u64,
@@ -15,7 +15,7 @@ pub struct RefreshTimer {
 }
 
 // What a call of the timer answers: refusal number 1 for a time above `TIME_MAX`, else 0, and the timer after the call.
-#[derive(Drop)]
+#[derive(Clone, Copy)]
 pub struct TimerAnswer {
     pub refusal: u32,
     pub timer: RefreshTimer,

@@ -11,7 +11,7 @@ use crate::links::{count_of, link_at};
 use crate::sizes::{ADDRESSES, SOURCES};
 
 // The first `count` addresses: three links have two each at most.
-#[derive(Drop)]
+#[derive(Clone, Copy)]
 pub struct Sources {
     pub count: usize,
     pub addresses: [u32; SOURCES],

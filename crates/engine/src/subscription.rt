@@ -18,7 +18,7 @@ use crate::target::target_match;
 use text::bytes::equal;
 
 // The subscriptions to be told: bit k for subscription k, and their number.
-#[derive(Drop)]
+#[derive(Clone, Copy)]
 pub struct Subscribers {
     pub mask: u32,
     pub told: u32,

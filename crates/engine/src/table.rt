@@ -1,5 +1,5 @@
 // Where in an ordered table the entry of a key stands, or would stand, and whether it is there.
-#[derive(Drop)]
+#[derive(Clone, Copy)]
 pub struct Spot {
     pub at: usize,
     pub known: bool,

@@ -10,7 +10,7 @@ use text::{bytes, number};
 const COLON: u8 = b':';
 
 // Every type; the very same type; or also a later version: the place of the target's last colon and the number behind it.
-#[derive(Drop)]
+#[derive(Clone, Copy)]
 pub enum Wanted {
     All,
     Same,

@@ -39,7 +39,7 @@ const MAX_AGE: [u8; 29] = *b"CACHE-CONTROL: max-age=1800\r\n";
 const SERVER_AND_END: [u8; 45] = *b"SERVER: none/0 UPnP/1.0 cotton-ssdp/1.0.0\r\n\r\n";
 
 // What a build answers: the refusal, 0 if there is none, and the length of the message, 0 if it was refused.
-#[derive(Drop)]
+#[derive(Clone, Copy)]
 pub struct Built {
     pub refusal: u32,
     pub len: usize,

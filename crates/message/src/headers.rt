@@ -6,14 +6,14 @@ use text::white::Place;
 use text::{bytes, lines, white};
 
 // What a datagram has under a key: nothing, or a value at its place.
-#[derive(Drop)]
+#[derive(Clone, Copy)]
 pub enum Header {
     Absent,
     At(Place),
 }
 
 // A line's key, OTHER if it is none of those looked up, and the place of its value in the line.
-#[derive(Drop)]
+#[derive(Clone, Copy)]
 pub struct Entry {
     pub key: usize,
     pub value: Place,

@@ -1,5 +1,7 @@
 // SSDP messages: document 01, 'Messages'. `parse` answers a message, whose fields are places in the datagram, or why there is none; `build_*` write the four kinds.
 // Contracts cite specs/Parse.antt, specs/Headers.antt and specs/Build.antt.
+#![tactic(auto)]
+
 ghost use Rattle.std.specs.Prelude.{◌≡◌};
 ghost use Rattle.message.specs.Parse.{field_at, alive_of, byebye_of, notify_of, response_of, search_of, notify_from, response_from, search_from, parsed, answer_of};
 
@@ -23,7 +25,7 @@ const DATAGRAM_EMPTY: u32 = 7;
 const DATAGRAM_INVALID: u32 = 8;
 
 // What a datagram says: its fields are places in it.
-#[derive(Drop)]
+#[derive(Clone, Copy)]
 pub enum Message {
     NotifyAlive {
         notification_type: Place,
@@ -46,7 +48,7 @@ pub enum Message {
 }
 
 // What `parse` answers: the message, or why there is none.
-#[derive(Drop)]
+#[derive(Clone, Copy)]
 pub enum Parsed {
     Message(Message),
     Empty,

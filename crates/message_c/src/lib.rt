@@ -1,5 +1,6 @@
 // Crate `message` for a host, as functions over byte slices that a static library exports (document 01, 'Messages'): an
 // answer is numbers. The comparisons and benchmarks of differential/ link it.
+#![tactic(auto)]
 ghost use Rattle.std.specs.Prelude.{◌≡◌};
 ghost use Rattle.message.specs.Build.{Builds, search_texts, byebye_texts, located_texts, search_text, response_text, notify_text, byebye_text};
 ghost use Rattle.message.specs.Parse.{answer_of, parsed};
@@ -11,7 +12,7 @@ use text::white::Place;
 // What `parse` answers: 1 alive, 2 byebye, 3 search, 4 response, or the refusal 7 or 8; then MX, and the start and length
 // of each of the message's fields in their order.
 #[repr(C)]
-#[derive(Drop)]
+#[derive(Clone, Copy)]
 pub struct ParsedNumbers {
     pub kind: u32,
     pub mx: u32,
@@ -24,7 +25,7 @@ pub struct ParsedNumbers {
 }
 
 #[repr(C)]
-#[derive(Drop)]
+#[derive(Clone, Copy)]
 pub struct Written {
     pub refusal: u32,
     pub len: usize,

@@ -17,7 +17,7 @@ use dialogue::{answer, record, session};
 use engine::sizes::{Head, Links, Numbers, Searches, Texts};
 
 // What is printed at once for a line: how many bytes of the buffer, and the state after it.
-#[derive(Drop)]
+#[derive(Clone, Copy)]
 pub(crate) struct Said {
     pub state: State,
     pub len: usize,

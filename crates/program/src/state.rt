@@ -15,7 +15,7 @@ pub const LINE_SIZE: usize = LINE_MAX + 2;
 
 // Whether the program is `trace`; whether an engine has begun, and how many bytes are lent to its calls; how much of a line has come. While an answer is
 // still printed: how many bytes were lent to its call, the record that is printed next, and how many there are.
-#[derive(Drop)]
+#[derive(Clone, Copy)]
 pub struct State {
     pub traced: bool,
     pub begun: bool,

@@ -16,7 +16,7 @@ use dialogue::record;
 use engine::sizes::{Head, Links, Numbers, Searches, Texts};
 
 // The state after a step, how many bytes of the chunk are used up, and how many bytes of the buffer are printed.
-#[derive(Drop)]
+#[derive(Clone, Copy)]
 pub struct Step {
     pub state: State,
     pub used: usize,

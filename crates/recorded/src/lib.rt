@@ -1,5 +1,6 @@
 // Reading recorded cases, which differential/record writes: one case a line, numbers and bytes in hexadecimal.
 // It says no paragraph of document 01; the programs that replay recorded answers of the Rust read them by this.
+#![tactic(auto)]
 ghost use Rattle.std.specs.Prelude.{◌≡◌, ◌<◌, ◌≤◌, length};
 ghost use Rattle.io.specs.Counts.{IsPrefixLen};
 
@@ -144,7 +145,7 @@ pub fn digest(s: &[u8]) -> u64 {
 }
 
 // One byte of standard input, or that its line ends, by a byte 10 or with the input.
-#[derive(Drop)]
+#[derive(Clone, Copy)]
 enum Next {
     Byte(u8),
     End,
@@ -180,7 +181,7 @@ pub fn read_line(line: &mut [u8]) -> usize
 }
 
 // How many cases were replayed and how many differ.
-#[derive(Drop)]
+#[derive(Clone, Copy)]
 pub struct Tally {
     pub cases: u64,
     pub differences: u64,

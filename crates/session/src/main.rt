@@ -1,4 +1,5 @@
 // Document 01, 'The session program': one call a line, one answer a line.
+#![tactic(auto)]
 fn main() {
     terminal::run(false);
 }

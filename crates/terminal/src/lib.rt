@@ -1,5 +1,6 @@
 // The programs `session` and `trace` at their standard streams: chunks of the input are read and handed on, and what each step gives is written. What is
 // printed is decided in crate `program`. Nothing says that the input ends, so the loop that reads has a count that falls.
+#![tactic(auto)]
 ghost use Rattle.std.specs.Prelude.{◌≡◌, false, List, [], ℕ, ◌≤◌, length};
 ghost use Rattle.engine.specs.Arrays.{Engine, engine};
 ghost use Rattle.program.specs.Steps.{piece_max, Ready, Hands, Reads};

@@ -6,7 +6,7 @@ ghost use Rattle.text.specs.Bytes.{block_size, lacks, upper, equal, equal_upper,
 // Bytes that `equal` and `order` compare at once.
 const BLOCK: usize = 16;
 
-#[derive(Drop)]
+#[derive(Clone, Copy)]
 pub enum Ordering {
     Less,
     Equal,

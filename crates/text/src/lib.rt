@@ -2,6 +2,8 @@
 // any slice and answers places or enums; a place is one of the slice that was lent. Nothing is copied:
 // `buffer` alone writes, into a buffer that is lent for that.
 // Each module cites the file of specs/ with its name.
+#![tactic(auto)]
+
 pub mod buffer;
 pub mod bytes;
 pub mod good;

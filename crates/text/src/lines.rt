@@ -5,7 +5,7 @@ ghost use Rattle.text.specs.Lines.{first_line, without};
 use crate::bytes;
 
 // A line at the front of a text: its length without its end, and where the next one begins.
-#[derive(Drop)]
+#[derive(Clone, Copy)]
 pub struct Line {
     pub len: usize,
     pub next: usize,

@@ -4,7 +4,7 @@ ghost use Rattle.text.specs.Range.{every};
 ghost use Rattle.text.specs.Utf8.{expects, lead_of, utf8, ascii, tailed};
 
 // What a lead byte fixes: `tail` bytes follow it, the first of them in low..=high.
-#[derive(Drop)]
+#[derive(Clone, Copy)]
 pub struct Lead {
     pub tail: u8,
     pub low: u8,

@@ -5,7 +5,7 @@ ghost use Rattle.text.specs.White.{white_space, begins, white1, white2, white3, 
 use crate::utf8;
 
 // A part of a text: where it starts, and its length.
-#[derive(Drop)]
+#[derive(Clone, Copy)]
 pub struct Place {
     pub start: usize,
     pub len: usize,

@@ -1,8 +1,9 @@
 // The text rules for a host that is not Rattle: what differential/bench_text links and measures beside
 // Rust's own functions.
 // A line at the front of a text: its length without its end, and where the next one begins.
+#![tactic(auto)]
 #[repr(C)]
-#[derive(Drop)]
+#[derive(Clone, Copy)]
 pub struct Cut {
     pub len: usize,
     pub next: usize,
@@ -24,7 +25,7 @@ pub extern "C" fn text_first_line(s: &[u8]) -> Cut {
 
 // A part of a text: where it starts, and its length.
 #[repr(C)]
-#[derive(Drop)]
+#[derive(Clone, Copy)]
 pub struct Part {
     pub start: usize,
     pub len: usize,

@@ -1,4 +1,5 @@
 // The session with what left and whom it told: behind each answer a line of news and one a record.
+#![tactic(auto)]
 fn main() {
     terminal::run(true);
 }

@@ -1,6 +1,7 @@
 // Replays lists of calls against crate `engine` (document 01, 'Engine and ledger'), with what the unchanged engine.rs sends, tells and
 // polls and what documents 01 and 02 count and refuse, and prints how many calls there were and how many differ.
 // differential/record/src/engine.rs made the lists and says what each field of a line is: one call a line.
+#![tactic(auto)]
 use engine::advertisement::Endpoint;
 use engine::answer::Answer;
 use engine::calls;

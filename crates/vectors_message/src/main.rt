@@ -1,6 +1,7 @@
 // Replays recorded answers of the unchanged message.rs against crate `message` (document 01, 'Messages') and prints how
 // many cases there were and how many differ. differential/record/src/message.rs made the list and says what each column
 // is: a letter, nine numbers of four digits, then bytes.
+#![tactic(auto)]
 ghost use Rattle.std.specs.Prelude.{◌<◌};
 
 use message::{Built, Message, Parsed};

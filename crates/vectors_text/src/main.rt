@@ -1,6 +1,7 @@
 // Replays recorded answers of Rust's own text functions against crate `text` (document 01, 'Text rules') and prints how
 // many cases there were and how many differ. differential/record/src/text.rs made the list and says what each column is:
 // a letter, the input's length, two answers, the input.
+#![tactic(auto)]
 use recorded::Tally;
 use text::bytes::Ordering;
 use text::number::Number;

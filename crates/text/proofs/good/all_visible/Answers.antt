@@ -1,0 +1,30 @@
+use mathlib.Core.Path.{refl, sym, ◌∙◌}
+use Prim.Native.Nat.{◌-◌}
+use native.Mathlib.Omega.{arith}
+use Rattle.text.specs.Good.{visible}
+use Rattle.text.proofs.Every as laws
+use Rattle.text.proofs.good.all_visible.Goals as goal
+
+pub loop-i-init : goal.loop-i-init
+loop-i-init c = (omega arith, refl)
+
+pub bounds-s-i : goal.bounds-s-i
+bounds-s-i c = omega arith
+
+pub overflow_add-i : goal.overflow_add-i
+overflow_add-i c = omega arith
+
+pub loop-i-smaller : goal.loop-i-smaller
+loop-i-smaller c = omega arith
+
+pub loop-i-preserved : goal.loop-i-preserved
+loop-i-preserved c =
+    let l = c.loop-i in
+    let a = c.args in
+    (omega arith, sym (laws.every-turn visible a.s.now l.i l.all (omega arith)) ∙ l.invariant.1)
+
+pub returns : goal.returns
+returns c =
+    let l = c.loop-i in
+    let a = c.args in
+    sym (laws.every-end visible a.s.now l.i l.all (omega arith)) ∙ l.invariant.1

@@ -1,0 +1,21 @@
+-- `utf8::has_one`: too few bytes, and a byte in the range or not.
+use mathlib.Core.Path.{sym}
+use borrow.Author.Rules.{rules}
+use native.Mathlib.Omega.{arith}
+use Rattle.text.proofs.Encoding as laws
+use Rattle.text.proofs.utf8.has_one.Goals as goal
+
+pub overflow_sub-s : goal.overflow_sub-s
+overflow_sub-s c = search rules
+
+pub returns-then-s-i-lt2 : goal.returns-then-s-i-lt2
+returns-then-s-i-lt2 c = sym (laws.tailed-short c.args.lead c.args.s.now c.args.i 1 (omega arith) (omega arith))
+
+pub overflow_add-b : goal.overflow_add-b
+overflow_add-b c = search rules
+
+pub bounds-s-i : goal.bounds-s-i
+bounds-s-i c = search rules
+
+pub returns : goal.returns
+returns c = laws.tailed-one c.args.lead c.args.s.now c.args.i (omega arith)

@@ -1,0 +1,15 @@
+-- `white::byte_at`: inside, and past the end.
+use mathlib.Core.Path.{sym}
+use lib.ListN.{get_or-eq_default}
+use borrow.Author.Rules.{rules}
+use native.Mathlib.Omega.{arith}
+use Rattle.text.proofs.white.byte_at.Goals as goal
+
+pub bounds-s-i : goal.bounds-s-i
+bounds-s-i c = search rules
+
+pub returns-then-i-s : goal.returns-then-i-s
+returns-then-i-s c = search rules
+
+pub returns-else-i-s : goal.returns-else-i-s
+returns-else-i-s c = sym (get_or-eq_default c.args.s.now 0 (omega arith))

@@ -1,0 +1,12 @@
+use mathlib.Core.Path.{◌≡◌}
+use Prim.Native.Nat.{◌-◌}
+use lib.ListN.{length}
+use Rattle.message.specs.Headers.{headers_from}
+use Rattle.message.proofs.Lookup.{ahead}
+use Rattle.message.proofs.headers.headers_from.Given as goal
+
+abbrev pub invariant-loop-at : goal.invariant-loop-at
+invariant-loop-at l = (length l.latest ≡ 6) × (ahead l.s l.at l.latest ≡ headers_from l.s l.from)
+
+abbrev pub decreases-loop-at : goal.decreases-loop-at
+decreases-loop-at l = length l.s - l.at

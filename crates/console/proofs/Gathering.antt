@@ -197,12 +197,12 @@ module _ (chunk : List ℕ) {buffer after : List ℕ} {len n : ℕ} (here : n �
       }
 
 -- what `finish` answers
-pub at-end-none : (text buffer : List ℕ) (len : ℕ) → len ≡ 0 → Pending text buffer len → More 0 ≡ finished text
+pub at_end_none : (text buffer : List ℕ) (len : ℕ) → len ≡ 0 → Pending text buffer len → More 0 ≡ finished text
 unfolding finished
-at-end-none [] buffer len e p = refl
-at-end-none (b ∷ text) buffer len e p = absurd (omega (arith, p.held.size, p.room))
+at_end_none [] buffer len e p = refl
+at_end_none (b ∷ text) buffer len e p = absurd (omega (arith, p.held.size, p.room))
 
-pub at-end : (text buffer : List ℕ) (len : ℕ) {r : Event} → (len ≡ 0 → ⊥) → Pending text buffer len → r ≡ event_in (take len buffer) 0 → r ≡ finished text
+pub at_end : (text buffer : List ℕ) (len : ℕ) {r : Event} → (len ≡ 0 → ⊥) → Pending text buffer len → r ≡ event_in (take len buffer) 0 → r ≡ finished text
 unfolding finished
-at-end [] buffer len n p e = absurd (n (omega (arith, p.held.size)))
-at-end (b ∷ text) buffer len n p e = e ∙ told (b ∷ text) buffer len 0 p.held p.room (last b text p.unended)
+at_end [] buffer len n p e = absurd (n (omega (arith, p.held.size)))
+at_end (b ∷ text) buffer len n p e = e ∙ told (b ∷ text) buffer len 0 p.held p.room (last b text p.unended)

@@ -5,6 +5,7 @@ ghost use Rattle.console.specs.Datagram.{unbarred, datagram};
 use crate::buffer;
 
 // Appends what a byte of the line stands for.
+#[tactic(auto, using(crate::proofs::Appending::text), unfolding(crate::specs::Datagram::unbarred))]
 fn append_byte(buf: &mut [u8], len: usize, byte: u8) -> usize
     ensures { Appends (unbarred byte) buf.old len buf.new result }
 {

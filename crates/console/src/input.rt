@@ -19,6 +19,7 @@ pub enum Event {
 }
 
 // What stands at the front of a buffer, as a line.
+#[tactic(auto, unfolding(crate::specs::Input::event_in))]
 fn event_of(front: &[u8], used: usize) -> Event
     ensures { result ≡ event_in front.now used }
 {
@@ -55,6 +56,7 @@ pub fn gather(buf: &mut [u8], len: usize, chunk: &[u8]) -> Event
 }
 
 // The input has ended behind the `len` bytes of a line that are held.
+#[tactic(auto, using(crate::proofs::Gathering::at_end_none, crate::proofs::Gathering::at_end))]
 pub fn finish(buf: &[u8], len: usize) -> Event
     ensures { (text : List ℕ) → Pending text buf.now len → result ≡ finished text }
 {

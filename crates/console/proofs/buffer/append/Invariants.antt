@@ -1,0 +1,11 @@
+-- `append` meets its contract. The invariant: the first `i` bytes of the text are appended. The measure is what is left of the text.
+use Prim.Native.Nat.{◌≤◌, ◌-◌}
+use lib.ListN.{length, take}
+use Rattle.console.specs.Buffer.{Appends}
+use Rattle.console.proofs.buffer.append.Given as goal
+
+abbrev pub invariant-loop-i : goal.invariant-loop-i
+invariant-loop-i l = (l.i ≤ length l.text) × Appends (take l.i l.text) l.initial.buf l.len l.buf l.end
+
+abbrev pub decreases-loop-i : goal.decreases-loop-i
+decreases-loop-i l = length l.text - l.i

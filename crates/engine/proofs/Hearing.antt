@@ -6,15 +6,11 @@ use Prim.Native.Nat.{ℕ, ◌≤◌, ◌<◌}
 use native.Mathlib.Omega.{arith}
 use borrow.Author.Tests.{lt-ltb, le-ltb, ne_eqb}
 use lib.Dec.{eqb}
-use types.Run.{OneOf, miss}
-use denote.Enum.Declared.{tag_of}
 use Rattle.message.specs.Parse.{ParseAnswer, answer_of, reads, parsed, field_at}
 use Rattle.message.specs.declared.Message.{Message}
 use Rattle.message.specs.declared.Message.TheVariants.{NotifyAlive, NotifyByeBye, Search, Response}
 use Rattle.message.specs.declared.Parsed.{Parsed}
 use Rattle.message.specs.declared.Parsed.TheVariants.{Message as Says, Empty, Invalid}
-use Rattle.message.specs.contracts.Message.{the_type as message-type}
-use Rattle.message.specs.contracts.Parsed.{the_type as parsed-type}
 use Rattle.text.specs.declared.white.Place.{Place}
 use Rattle.engine.specs.Sizes.{time_max}
 use Rattle.engine.specs.Reading.{Subject, Asking, Notice, subject_of, place_of, noticed, type_of, is_notice}
@@ -25,28 +21,18 @@ use Rattle.engine.specs.Need.{Names}
 use Rattle.engine.specs.Refusals.{checks, refusal, subject_checks, search_checks}
 use Rattle.engine.specs.Engine.{notifies_by, notifies_of, notifies_about}
 
--- the numbers of the answers of `parse` that hold no message, and of the messages that are no search
-abbrev pub refusals : List ℕ
-refusals = 1 ∷ 2 ∷ []
-
-abbrev pub notices : List ℕ
-notices = 0 ∷ 1 ∷ 3 ∷ []
-
 -- an answer that holds no message is refused by its number
-pub no_message : (p : Parsed) → OneOf refusals (tag_of parsed-type p) → (answer_of p).refusal ≡ 0 → ⊥
-no_message (Says m) k z = miss refusals 0 tt k
+pub no_message : (p : Parsed) → ((m : Message) → p ≡ Says m → ⊥) → (answer_of p).refusal ≡ 0 → ⊥
+no_message (Says m) k z = k m refl
 no_message Empty k z = omega arith
 no_message Invalid k z = omega arith
 
 -- a message that is no search is a notice
-is-notice : (m : Message) → OneOf notices (tag_of message-type m) → is_notice m ≡ true
-is-notice (NotifyAlive nt usn l) k = refl
-is-notice (NotifyByeBye nt usn) k = refl
-is-notice (Search st mx) k = absurd (miss notices 2 tt k)
-is-notice (Response st usn l) k = refl
-
-pub no_search : {p : Parsed} {m : Message} → p ≡ Says m → OneOf notices (tag_of message-type m) → is_notice m ≡ true
-no_search {p} {m} e k = is-notice m k
+pub no_search : (m : Message) → ((st : Place) → (mx : ℕ) → m ≡ Search st mx → ⊥) → is_notice m ≡ true
+no_search (NotifyAlive nt usn l) k = refl
+no_search (NotifyByeBye nt usn) k = refl
+no_search (Search st mx) k = absurd (k st mx refl)
+no_search (Response st usn l) k = refl
 
 -- a notice is accepted, asks nothing, and notifies of its type
 pub record Noticed (s : List ℕ) (service : Place) (a : ParseAnswer) : Type 0 where

@@ -15,6 +15,7 @@ pub data Each {A : Type 0} (P : A → Type 0) : List A → Type 0 where
 pub each_at : {A : Type 0} {P : A → Type 0} {l : List A} → Each P l → (x : A) → In x l → P x
 each_at {P = P} (both p h) x (first e) = subst P (sym e) p
 each_at (both p h) x (after i) = each_at h x i
+each_at {A = A} {P = P} nobody x x6 = elim x6 [ ]
 
 pub each-by : {A : Type 0} {P : A → Type 0} (l : List A) → ((x : A) → In x l → P x) → Each P l
 each-by [] h = nobody

@@ -1,5 +1,6 @@
 // The discovery engine: what is held, and the calls on it. Sockets, clock and interface news stay with the host.
 #![tactic(auto)]
+
 mod address;
 pub mod advertisement;
 mod announce;

@@ -1,3 +1,5 @@
+-- `headers_from` meets its contract. The invariant: the table of the latest headers, with what the lines from `at` on hold over it, is what all
+-- the lines hold. The measure is what is left of the datagram.
 use mathlib.Core.Path.{◌≡◌}
 use Prim.Native.Nat.{◌-◌}
 use lib.ListN.{length}

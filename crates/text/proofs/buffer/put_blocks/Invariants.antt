@@ -1,3 +1,5 @@
+-- `buffer::put_blocks`: the buffer is the one at entry with the first `i` bytes of the text pasted at `at`. The last block starts before `i`. The measure
+-- is what is left of the text.
 use mathlib.Core.Path.{◌≡◌}
 use Prim.Native.Nat.{◌-◌, ◌≤◌}
 use lib.ListN.{length}

@@ -1,3 +1,5 @@
+-- `buffer::put_bytes` meets its contract. The invariant: the buffer is the one at entry with the first `i` bytes of the text pasted at `at`. The measure is
+-- what is left of the text.
 use mathlib.Core.Path.{◌≡◌}
 use Prim.Native.Nat.{◌+◌, ◌-◌, ◌≤◌}
 use lib.ListN.{length}

@@ -1,3 +1,4 @@
+-- `bytes::block_before`: the first place is i and the first place in what follows i. The measure is what is left of the length.
 use Prim.Native.Nat.{◌+◌, ◌-◌, ◌≤◌}
 use lib.ListN.{length, drop}
 use mathlib.Core.Path.{◌≡◌}

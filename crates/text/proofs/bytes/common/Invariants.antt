@@ -1,3 +1,4 @@
+-- `bytes::common`: as long as the blocks before i are the same, the texts are in the order of what follows. The measure is what is left of the first text.
 use mathlib.Core.Path.{◌≡◌}
 use lib.ListN.{length, drop}
 use Prim.Native.Nat.{◌-◌, ◌≤◌}

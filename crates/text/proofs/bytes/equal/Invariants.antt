@@ -1,3 +1,4 @@
+-- `bytes::equal`: the texts are the same as what follows i is. The last block starts before i. The measure is what is left of the length.
 use mathlib.Core.Path.{◌≡◌}
 use lib.ListN.{length, drop}
 use Prim.Native.Nat.{◌-◌, ◌≤◌}

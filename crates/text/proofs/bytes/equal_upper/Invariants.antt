@@ -1,3 +1,4 @@
+-- `bytes::equal_upper`: as `bytes::equal`, with each byte of the first text in upper case. The measure is what is left of the length.
 use mathlib.Core.Path.{◌≡◌}
 use lib.ListN.{length, drop}
 use Prim.Native.Nat.{◌-◌, ◌≤◌}

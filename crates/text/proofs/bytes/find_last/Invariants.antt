@@ -1,3 +1,4 @@
+-- `bytes::find_last`: the byte stands nowhere from i on. The measure is i.
 use Prim.Native.Nat.{ℕ, ◌-◌, ◌≤◌, ◌<◌}
 use lib.ListN.{length, get_or}
 use mathlib.Core.Path.{◌≡◌}

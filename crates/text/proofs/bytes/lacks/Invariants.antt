@@ -1,3 +1,4 @@
+-- `bytes::lacks`: what was found before i, and the bytes from i on. The measure is what is left of the length.
 use mathlib.Core.Path.{◌≡◌}
 use lib.ListN.{length, drop}
 use Prim.Native.Nat.{ℕ, ◌-◌, ◌≤◌}

@@ -1,3 +1,4 @@
+-- `bytes::order`: as long as the bytes before i are equal, the texts are in the order of what follows. The measure is what is left of the first text.
 use mathlib.Core.Path.{◌≡◌}
 use lib.ListN.{length, drop}
 use Prim.Native.Nat.{◌-◌, ◌≤◌}

@@ -1,3 +1,4 @@
+-- `bytes::same_from`: what is found is whether the first i bytes of the block are the same. The measure is what is left of the block.
 use mathlib.Core.Path.{◌≡◌}
 use lib.ListN.{take, drop}
 use Prim.Native.Nat.{◌-◌, ◌≤◌}

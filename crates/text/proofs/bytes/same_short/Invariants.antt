@@ -1,3 +1,4 @@
+-- `bytes::same_short`: what was found before i, and the bytes from i on. The measure is what is left of the length.
 use mathlib.Core.Path.{◌≡◌}
 use mathlib.Core.Bool.{◌&&◌}
 use lib.ListN.{length, drop}

@@ -1,3 +1,4 @@
+-- `bytes::starts_with`: as long as the bytes before i agree, what follows decides. The measure is what is left of the beginning.
 use mathlib.Core.Path.{◌≡◌}
 use lib.ListN.{length, drop}
 use Prim.Native.Nat.{◌-◌, ◌≤◌}

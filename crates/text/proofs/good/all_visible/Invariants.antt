@@ -1,3 +1,4 @@
+-- `good::all_visible`: what was found before i, and the bytes from i on. The measure is what is left of the length.
 use mathlib.Core.Path.{◌≡◌}
 use lib.ListN.{length, drop}
 use Prim.Native.Nat.{◌-◌, ◌≤◌}

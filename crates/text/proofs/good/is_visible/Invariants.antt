@@ -1,3 +1,4 @@
+-- `good::is_visible`: the text passes as what follows i does. The last block starts before i. The measure is what is left of the length.
 use Prim.Native.Nat.{◌-◌, ◌≤◌}
 use lib.ListN.{length, drop}
 use mathlib.Core.Path.{◌≡◌}

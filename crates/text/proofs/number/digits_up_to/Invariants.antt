@@ -1,3 +1,4 @@
+-- `number::digits_up_to`: the digits before i give n, at most max, and the digits from i on decide. The measure is what is left of the length.
 use mathlib.Core.Path.{◌≡◌}
 use lib.ListN.{length, drop}
 use Prim.Native.Nat.{◌-◌, ◌≤◌}

@@ -1,3 +1,4 @@
+-- `utf8::ascii_end`: the check goes on at k as it does at i. The measure is what is left of the length.
 use Prim.Native.Nat.{◌-◌, ◌≤◌, ◌<◌}
 use lib.ListN.{length, drop}
 use mathlib.Core.Path.{◌≡◌}

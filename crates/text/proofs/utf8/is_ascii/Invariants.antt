@@ -1,3 +1,4 @@
+-- `utf8::is_ascii`: what was found before i, and the bytes from i on. The measure is what is left of the length.
 use mathlib.Core.Bool.{◌&&◌}
 use mathlib.Core.Path.{◌≡◌}
 use lib.ListN.{length, drop}

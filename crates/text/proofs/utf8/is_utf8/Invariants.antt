@@ -1,3 +1,4 @@
+-- `utf8::is_utf8`: what is left from i on is well formed just if the text is. The measure is what is left of the length.
 use lib.ListN.{length, drop}
 use Prim.Native.Nat.{◌-◌, ◌≤◌}
 use mathlib.Core.Path.{◌≡◌}

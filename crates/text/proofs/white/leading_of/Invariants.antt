@@ -1,3 +1,4 @@
+-- `white::leading_of`: the white space at the front is i bytes and that at the front of what follows i. The measure is what is left of the length.
 use lib.ListN.{length, drop}
 use Prim.Native.Nat.{◌+◌, ◌-◌, ◌≤◌}
 use mathlib.Core.Path.{◌≡◌}

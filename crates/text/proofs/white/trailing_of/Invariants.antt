@@ -1,3 +1,4 @@
+-- `white::trailing_of`: the white space at the end is what was passed and that at the end of the first e bytes. The measure is e.
 use lib.ListN.{length, take}
 use Prim.Native.Nat.{◌+◌, ◌-◌, ◌≤◌}
 use mathlib.Core.Path.{◌≡◌}

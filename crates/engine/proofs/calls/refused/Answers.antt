@@ -1,0 +1,22 @@
+-- `calls::refused` meets its contract: waiting and poll are those of what the arrays hold.
+use mathlib.Core.Path.{◌∙◌, ap}
+use Rattle.engine.specs.Calls.{zeros}
+use Rattle.engine.specs.Engine.{notifies_nobody}
+use Rattle.engine.specs.Replies.{soonest}
+use Rattle.engine.specs.Arrays.{engine, names_in}
+use Rattle.engine.specs.declared.refresh_timer.RefreshTimer.{RefreshTimer}
+use Rattle.engine.proofs.Lending as lending
+use borrow.Author.Rules.{rules}
+use Rattle.engine.proofs.calls.refused.Goals as goal
+
+pub timer_in-timer-requires : goal.timer_in-timer-requires
+timer_in-timer-requires c = search rules
+
+pub waits_in-waits-requires : goal.waits_in-waits-requires
+waits_in-waits-requires c = search rules
+
+pub returns : goal.returns
+returns c links searches texts =
+    let a = c.args in
+    lending.answer-of _ 0 zeros notifies_nobody (engine _ links searches _ texts) _ _ (c.waits_in-waits.ensures texts).0
+    ((c.waits_in-waits.ensures texts).1 ∙ ap (λ (x : RefreshTimer). soonest x.next_salvo (names_in a.head.now a.numbers.now texts)) c.timer_in-timer.ensures)

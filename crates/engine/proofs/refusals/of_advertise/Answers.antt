@@ -1,0 +1,25 @@
+use borrow.Author.Rules.{rules}
+use Rattle.engine.specs.Refusals.{refusal, checks}
+use Rattle.engine.proofs.refusals.of_advertise.Goals as goal
+
+pub full_or_short-full-requires : goal.full_or_short-full-requires
+full_or_short-full-requires c = search rules
+
+pub is_good-requires : goal.is_good-requires
+is_good-requires c = search rules
+
+pub is_good-requires-2 : goal.is_good-requires-2
+is_good-requires-2 c = search rules
+
+pub is_good-requires-3 : goal.is_good-requires-3
+is_good-requires-3 c = search rules
+
+pub first-formed-requires : goal.first-formed-requires
+first-formed-requires c = search rules
+
+pub first-requires : goal.first-requires
+first-requires c = search rules
+
+pub returns : goal.returns
+unfolding refusal checks
+returns c x n room h k m = rw (m, h, k) (cc)

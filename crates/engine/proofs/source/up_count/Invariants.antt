@@ -1,0 +1,13 @@
+-- Those so far and those of the links that are left are all of them. The measure is what is left of the count.
+use mathlib.Core.Path.{◌≡◌}
+use Prim.Native.Nat.{◌-◌, ◌≤◌}
+use lib.ListN.{drop}
+use Rattle.engine.specs.Arrays.{link_count, links_in}
+use Rattle.engine.proofs.UpAddresses as up
+use Rattle.engine.proofs.source.up_count.Given as goal
+
+abbrev pub invariant-loop-i : goal.invariant-loop-i
+invariant-loop-i l = (l.i ≤ l.n) × (l.n ≡ link_count l.head) × up.Counting (links_in l.head l.links) l.i (drop l.i (links_in l.head l.links)) l.count
+
+abbrev pub decreases-loop-i : goal.decreases-loop-i
+decreases-loop-i l = l.n - l.i

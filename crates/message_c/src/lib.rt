@@ -1,6 +1,7 @@
 // Crate `message` for a host, as functions over byte slices that a static library exports (document 01, 'Messages'): an
-// answer is numbers. The comparisons and benchmarks of differential/ link it.
+// answer is numbers. Crate `message_c_c` is that library; the comparisons and benchmarks of differential/ link it.
 #![tactic(auto)]
+
 ghost use Rattle.std.specs.Prelude.{◌≡◌};
 ghost use Rattle.message.specs.Build.{Builds, search_texts, byebye_texts, located_texts, search_text, response_text, notify_text, byebye_text};
 ghost use Rattle.message.specs.Parse.{answer_of, parsed};
@@ -108,8 +109,8 @@ pub extern "C" fn message_c_response(
     location: &[u8],
 ) -> Written
     ensures { Builds (located_texts st.now usn.now location.now)
-        (responseText st.now usn.now location.now)
-        buf.old buf.new (builtOf result) }
+        (response_text st.now usn.now location.now)
+        buf.old buf.new (built_of result) }
 {
     let b = message::build_response(buf, st, usn, location);
     Written {
@@ -126,8 +127,8 @@ pub extern "C" fn message_c_notify(
     location: &[u8],
 ) -> Written
     ensures { Builds (located_texts nt.now usn.now location.now)
-        (notifyText nt.now usn.now location.now)
-        buf.old buf.new (builtOf result) }
+        (notify_text nt.now usn.now location.now)
+        buf.old buf.new (built_of result) }
 {
     let b = message::build_notify(buf, nt, usn, location);
     Written {
@@ -139,8 +140,8 @@ pub extern "C" fn message_c_notify(
 #[unsafe(no_mangle)]
 pub extern "C" fn message_c_byebye(buf: &mut [u8], nt: &[u8], usn: &[u8]) -> Written
     ensures { Builds (byebye_texts nt.now usn.now)
-        (byebyeText nt.now usn.now)
-        buf.old buf.new (builtOf result) }
+        (byebye_text nt.now usn.now)
+        buf.old buf.new (built_of result) }
 {
     let b = message::build_byebye(buf, nt, usn);
     Written {

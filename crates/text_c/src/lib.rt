@@ -1,7 +1,8 @@
-// The text rules for a host that is not Rattle: what differential/bench_text links and measures beside
+// The text rules for a host that is not Rattle, a static library: what differential/bench_text links and measures beside
 // Rust's own functions.
-// A line at the front of a text: its length without its end, and where the next one begins.
 #![tactic(auto)]
+
+// A line at the front of a text: its length without its end, and where the next one begins.
 #[repr(C)]
 #[derive(Clone, Copy)]
 pub struct Cut {

@@ -1,4 +1,4 @@
-/* Kohlsilk, an SSDP discovery engine without sockets, for a host in C: link target/staticlib/libhost.a (`rt staticlib host`).
+/* Kohlsilk, an SSDP discovery engine without sockets, for a host in C: link target/staticlib/libhost.a (`tools/build lib host`).
  *
  * The host hands datagrams, times and news of the network in. It takes records, which it sends, and the instant of the
  * next timeout out. Every call takes any numbers and any bytes, answers, and comes back; what it cannot accept it refuses by

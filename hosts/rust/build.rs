@@ -1,4 +1,4 @@
-//! Build script: finds libhost.a, which `rt staticlib host` writes to target/staticlib of the repository. `KOHLSILK_LIB`
+//! Build script: finds libhost.a, which `tools/build lib host` writes to target/staticlib of the repository. `KOHLSILK_LIB`
 //! names another folder.
 use std::fs::{File, OpenOptions};
 use std::io::Write;
@@ -15,7 +15,7 @@ fn main() {
     };
     let library = folder.join("libhost.a");
     if !library.exists() {
-        eprintln!("{} is not there: run `rt staticlib host`, or name its folder in KOHLSILK_LIB", library.display());
+        eprintln!("{} is not there: run `tools/build lib host`, or name its folder in KOHLSILK_LIB", library.display());
         std::process::exit(1);
     }
     println!("cargo:rerun-if-changed={}", library.display());
@@ -26,33 +26,43 @@ fn main() {
 }
 
 /// The crates that the library is made of.
-const CRATES: [&str; 5] = ["text", "message", "message_c", "engine", "host"];
+const CRATES: [&str; 6] = ["text", "message", "message_c", "engine", "host", "host_c"];
+
+/// The folders of a crate that it is proved from; beside them lies what `rt` makes.
+const PARTS: [&str; 3] = ["src", "specs", "proofs"];
+
+/// The status of `tools/build` where there is no `rt`.
+const NO_RT: i32 = 127;
 
 /// The repository's own, proved and built where it is not there yet or a crate has changed since. Without `rt` it is taken as it is.
 fn built_here() -> PathBuf {
     let root = Path::new(&std::env::var("CARGO_MANIFEST_DIR").unwrap()).join("../..");
     let folder = root.join("target/staticlib");
-    let crates = CRATES.map(|name| root.join("crates").join(name));
-    for path in &crates {
+    let parts = CRATES.iter().flat_map(|name| PARTS.map(|part| root.join("crates").join(name).join(part)));
+    let parts: Vec<PathBuf> = parts.filter(|path| path.exists()).collect();
+    for path in &parts {
         println!("cargo:rerun-if-changed={}", path.display());
     }
-    let newest = crates.iter().filter_map(|path| changed(path)).max();
+    let newest = parts.iter().filter_map(|path| changed(path)).max();
     if changed(&folder.join("libhost.a")) < newest {
         build_library(&root);
     }
     folder
 }
 
-/// Runs `rt staticlib host`. What it prints is shown where it fails, on stderr: cargo reads this script's stdout.
+/// Runs `tools/build lib host`. What it prints is shown where it fails, on stderr: cargo reads this script's stdout.
 fn build_library(root: &Path) {
     let log = Path::new(&std::env::var("OUT_DIR").unwrap()).join("rt.log");
     let file = File::create(&log).unwrap();
-    let mut rt = Command::new("rt");
-    rt.args(["staticlib", "host"]).current_dir(root).stdout(file.try_clone().unwrap()).stderr(file);
-    let ended = match rt.spawn() {
+    let mut build = Command::new(root.join("tools/build"));
+    build.args(["lib", "host"]).stdout(file.try_clone().unwrap()).stderr(file);
+    let ended = match build.spawn() {
         Ok(child) => wait_aloud(child),
-        Err(error) => return println!("cargo:warning=rt cannot be run ({error}): libhost.a is taken as it is"),
+        Err(error) => return println!("cargo:warning=tools/build cannot be run ({error}): libhost.a is taken as it is"),
     };
+    if ended.code() == Some(NO_RT) {
+        return println!("cargo:warning=rt cannot be run: libhost.a is taken as it is");
+    }
     if !ended.success() {
         eprintln!("{}", String::from_utf8_lossy(&std::fs::read(log).unwrap()));
         std::process::exit(1);
@@ -63,15 +73,15 @@ fn build_library(root: &Path) {
 fn wait_aloud(mut child: Child) -> ExitStatus {
     let begun = Instant::now();
     let mut said = 0;
-    tell("kohlsilk: `rt staticlib host` proves the engine and writes libhost.a, which takes minutes");
+    tell("kohlsilk: `tools/build lib host` proves the engine and writes libhost.a, which takes minutes");
     loop {
         if let Some(status) = child.try_wait().unwrap() {
-            println!("cargo:warning=`rt staticlib host` took {} s", begun.elapsed().as_secs());
+            println!("cargo:warning=`tools/build lib host` took {} s", begun.elapsed().as_secs());
             return status;
         }
         if begun.elapsed().as_secs() >= said + 30 {
             said += 30;
-            tell(&format!("kohlsilk: `rt staticlib host` is at work, {said} s so far"));
+            tell(&format!("kohlsilk: `tools/build lib host` is at work, {said} s so far"));
         }
         sleep(Duration::from_millis(200));
     }

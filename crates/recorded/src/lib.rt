@@ -1,8 +1,11 @@
 // Reading recorded cases, which differential/record writes: one case a line, numbers and bytes in hexadecimal.
 // It says no paragraph of document 01; the programs that replay recorded answers of the Rust read them by this.
 #![tactic(auto)]
+
 ghost use Rattle.std.specs.Prelude.{◌≡◌, ◌<◌, ◌≤◌, length};
-ghost use Rattle.io.specs.Counts.{IsPrefixLen};
+ghost use Rattle.recorded.specs.Counts.{IsPrefixLen};
+
+use std::io::{Print, Read, Stdin};
 
 // The value of a hexadecimal digit in lower case, 0 of any other byte.
 fn digit(b: u8) -> u8
@@ -151,9 +154,10 @@ enum Next {
     End,
 }
 
-fn read_byte() -> Next {
+// A read that fails counts as the end of the input.
+fn read_byte(from: &mut Stdin) -> Next {
     let mut b = [0u8; 1];
-    let n = io::read_full(0, &mut b);
+    let n = from.read(&mut b).unwrap_or(0);
     if n == 0 {
         return Next::End;
     }
@@ -165,12 +169,12 @@ fn read_byte() -> Next {
 
 // Puts the next line of standard input at the start of `line`, as much as it takes, and answers how long it is: 0 where
 // the input ends, since no recorded line is empty.
-pub fn read_line(line: &mut [u8]) -> usize
+pub fn read_line(from: &mut Stdin, line: &mut [u8]) -> usize
     ensures { IsPrefixLen result line.new }
 {
     let mut n = 0;
     while n < line.len() {
-        let got = read_byte();
+        let got = read_byte(from);
         let Next::Byte(b) = got else {
             return n;
         };
@@ -204,10 +208,7 @@ impl Tally {
         }
     }
 
-    pub fn print(self) {
-        io::print_decimal(1, self.cases);
-        io::write_all(1, b" cases, ");
-        io::print_decimal(1, self.differences);
-        io::write_all(1, b" differences\n");
+    pub fn print(self, to: &impl Print) -> std::io::Result<()> {
+        println!(to; "{} cases, {} differences", self.cases, self.differences)
     }
 }

@@ -2,7 +2,10 @@
 // many cases there were and how many differ. differential/record/src/text.rs made the list and says what each column is:
 // a letter, the input's length, two answers, the input.
 #![tactic(auto)]
+
 use recorded::Tally;
+use std::io;
+use std::io::Stdin;
 use text::bytes::Ordering;
 use text::number::Number;
 
@@ -82,7 +85,7 @@ fn agrees(line: &[u8]) -> bool {
     if line.len() < 29 {
         return false;
     }
-    let mut input = io::buffer();
+    let mut input = [0u8; 4096];
     let n = recorded::bytes(&line[29..], &mut input);
     if recorded::number(&line[2..6]) != n as u64 {
         return false;
@@ -97,12 +100,12 @@ fn agrees(line: &[u8]) -> bool {
 }
 
 // Line by line to the end of the list, which is far shorter than a million.
-fn replay() -> Tally {
+fn replay(from: &mut Stdin) -> Tally {
     let mut tally = Tally::none();
     let mut turns: u64 = 1000000;
     while 0 < turns {
-        let mut line = io::buffer();
-        let n = recorded::read_line(&mut line);
+        let mut line = [0u8; 4096];
+        let n = recorded::read_line(from, &mut line);
         if n == 0 {
             return tally;
         }
@@ -112,6 +115,6 @@ fn replay() -> Tally {
     tally
 }
 
-fn main() {
-    replay().print();
+fn main(rt: HostRuntime) -> io::Result<()> {
+    replay(&mut rt.stdin()).print(&rt)
 }

@@ -2,6 +2,7 @@
 // polls and what documents 01 and 02 count and refuse, and prints how many calls there were and how many differ.
 // differential/record/src/engine.rs made the lists and says what each field of a line is: one call a line.
 #![tactic(auto)]
+
 use engine::advertisement::Endpoint;
 use engine::answer::Answer;
 use engine::calls;
@@ -10,6 +11,8 @@ use engine::sizes::{
     Searches, TEXTS_SIZE, Texts,
 };
 use recorded::Tally;
+use std::io;
+use std::io::Stdin;
 
 fn number(line: &[u8], k: usize) -> u64 {
     recorded::number(recorded::field(line, k))
@@ -41,9 +44,9 @@ fn advertise(
     line: &[u8],
     outbox: &mut [u8],
 ) -> Answer {
-    let mut name = io::buffer();
-    let mut service = io::buffer();
-    let mut location = io::buffer();
+    let mut name = [0u8; 4096];
+    let mut service = [0u8; 4096];
+    let mut location = [0u8; 4096];
     let a = recorded::bytes(recorded::field(line, 6), &mut name);
     let b = recorded::bytes(recorded::field(line, 7), &mut service);
     let c = recorded::bytes(recorded::field(line, 8), &mut location);
@@ -232,7 +235,7 @@ fn on_line(
     line: &[u8],
     outbox: &mut [u8],
 ) -> Tally {
-    let mut text = io::buffer();
+    let mut text = [0u8; 4096];
     let n = recorded::bytes(recorded::field(line, 6), &mut text);
     with_room(
         head,
@@ -249,6 +252,7 @@ fn on_line(
 
 // Line by line to the end of the lists, which are far shorter than a million.
 fn replay(
+    from: &mut Stdin,
     head: &mut Head,
     links: &mut Links,
     searches: &mut Searches,
@@ -259,8 +263,8 @@ fn replay(
     let mut tally = Tally::none();
     let mut turns: u64 = 1000000;
     while 0 < turns {
-        let mut line = io::buffer();
-        let n = recorded::read_line(&mut line);
+        let mut line = [0u8; 4096];
+        let n = recorded::read_line(from, &mut line);
         if n == 0 {
             return tally;
         }
@@ -283,7 +287,7 @@ fn replay(
 // As much as a line of the lists may lend.
 const OUTBOX_MAX: usize = 300000;
 
-fn main() {
+fn main(rt: HostRuntime) -> io::Result<()> {
     let mut head = [0u64; HEAD_PLACES];
     let mut links = [0u64; LINK_NUMBERS];
     let mut searches = [0u8; SEARCH_BYTES];
@@ -291,6 +295,7 @@ fn main() {
     let mut texts = [0u8; TEXTS_SIZE];
     let mut outbox = [0u8; OUTBOX_MAX];
     replay(
+        &mut rt.stdin(),
         &mut head,
         &mut links,
         &mut searches,
@@ -298,5 +303,5 @@ fn main() {
         &mut texts,
         &mut outbox,
     )
-    .print();
+    .print(&rt)
 }

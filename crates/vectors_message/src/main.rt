@@ -2,10 +2,13 @@
 // many cases there were and how many differ. differential/record/src/message.rs made the list and says what each column
 // is: a letter, nine numbers of four digits, then bytes.
 #![tactic(auto)]
+
 ghost use Rattle.std.specs.Prelude.{◌<◌};
 
 use message::{Built, Message, Parsed};
 use recorded::Tally;
+use std::io;
+use std::io::Stdin;
 use text::white::Place;
 
 // Column `k` of nine; 0 where a line does not have it.
@@ -130,7 +133,7 @@ fn is_built_in(line: &[u8], s: &[u8], buf: &mut [u8]) -> bool {
 
 fn is_built(line: &[u8], s: &[u8]) -> bool {
     let room = column(line, 6);
-    let mut buf = io::buffer();
+    let mut buf = [0u8; 4096];
     if buf.len() < room {
         return false;
     }
@@ -142,7 +145,7 @@ fn agrees(line: &[u8]) -> bool {
     if line.len() < 47 {
         return false;
     }
-    let mut bytes = io::buffer();
+    let mut bytes = [0u8; 4096];
     let n = recorded::bytes(&line[47..], &mut bytes);
     if column(line, 0) != n {
         return false;
@@ -154,12 +157,12 @@ fn agrees(line: &[u8]) -> bool {
 }
 
 // Line by line to the end of the list, which is far shorter than a million.
-fn replay() -> Tally {
+fn replay(from: &mut Stdin) -> Tally {
     let mut tally = Tally::none();
     let mut turns: u64 = 1000000;
     while 0 < turns {
-        let mut line = io::buffer();
-        let n = recorded::read_line(&mut line);
+        let mut line = [0u8; 4096];
+        let n = recorded::read_line(from, &mut line);
         if n == 0 {
             return tally;
         }
@@ -169,6 +172,6 @@ fn replay() -> Tally {
     tally
 }
 
-fn main() {
-    replay().print();
+fn main(rt: HostRuntime) -> io::Result<()> {
+    replay(&mut rt.stdin()).print(&rt)
 }

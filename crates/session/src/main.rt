@@ -1,5 +1,6 @@
 // Document 01, 'The session program': one call a line, one answer a line.
 #![tactic(auto)]
-fn main() {
-    terminal::run(false);
+
+fn main(rt: HostRuntime) {
+    terminal::run(&mut rt.stdin(), rt.stdout(), false);
 }

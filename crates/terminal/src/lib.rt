@@ -1,6 +1,7 @@
 // The programs `session` and `trace` at their standard streams: chunks of the input are read and handed on, and what each step gives is written. What is
 // printed is decided in crate `program`. Nothing says that the input ends, so the loop that reads has a count that falls.
 #![tactic(auto)]
+
 ghost use Rattle.std.specs.Prelude.{◌≡◌, false, List, [], ℕ, ◌≤◌, length};
 ghost use Rattle.engine.specs.Arrays.{Engine, engine};
 ghost use Rattle.program.specs.Steps.{piece_max, Ready, Hands, Reads};
@@ -12,21 +13,27 @@ use engine::sizes::{
 };
 use program::state::State;
 use program::{state, step};
+use std::io::{Print, Read, Stdin, Stdout};
 
-// Writes the first `len` bytes of a buffer.
-fn write(out: &[u8], len: usize) {
-    io::write_all(1, part::front(out, len));
+// Writes the first `len` bytes of a buffer. What cannot be written is lost.
+fn write(to: Stdout, out: &[u8], len: usize) {
+    let _ = to.write_all(part::front(out, len));
+}
+
+// Reads a chunk and answers how long it is: 0 where the input ends, or where a read fails.
+fn read(from: &mut Stdin, chunk: &mut [u8]) -> usize {
+    from.read(chunk).unwrap_or(0)
 }
 
 // Writes what is still to be printed of an answer.
-fn print_due(s: State, outbox: &[u8], out: &mut [u8]) -> State
+fn print_due(to: Stdout, s: State, outbox: &[u8], out: &mut [u8]) -> State
     requires { piece_max ≤ length out.old }
     ensures { (result.held ≡ s.held) × (result.printing ≡ false) × ((e : Engine) (line rest : List ℕ) → Hands s e line outbox.now rest result e line outbox.now rest) }
 {
     let mut state = s;
     while state.printing {
         let step = step::print_due(state, outbox, out);
-        write(out, step.len);
+        write(to, out, step.len);
         let next = step.state;
         state = next;
     }
@@ -35,6 +42,7 @@ fn print_due(s: State, outbox: &[u8], out: &mut [u8]) -> State
 
 // Hands on a chunk, part by part.
 fn on_chunk(
+    to: Stdout,
     s: State,
     head: &mut Head,
     links: &mut Links,
@@ -64,9 +72,9 @@ fn on_chunk(
             outbox,
             out,
         );
-        write(out, step.len);
+        write(to, out, step.len);
         let taken = step.state;
-        let next = print_due(taken, outbox, out);
+        let next = print_due(to, taken, outbox, out);
         state = next;
         at += step.used;
     }
@@ -75,6 +83,8 @@ fn on_chunk(
 
 // Reads standard input to its end and hands it on.
 fn read_all(
+    from: &mut Stdin,
+    to: Stdout,
     s: State,
     head: &mut Head,
     links: &mut Links,
@@ -88,16 +98,16 @@ fn read_all(
     requires { Ready s line.old outbox.old out.old }
     ensures { Ready result line.new outbox.new out.new × Reads s (engine head.old links.old searches.old numbers.old texts.old) line.old outbox.old result (engine head.new links.new searches.new numbers.new texts.new) line.new outbox.new }
 {
-    let mut chunk = io::buffer();
+    let mut chunk = [0u8; 4096];
     let mut state = s;
     let mut turns: u64 = 0xFFFF_FFFF_FFFF_FFFF;
     while 0 < turns {
-        let got = libc::read(0, &mut chunk);
-        let n = io::count(got, &chunk);
+        let n = read(from, &mut chunk);
         if n == 0 {
             return state;
         }
         let next = on_chunk(
+            to,
             state,
             head,
             links,
@@ -117,6 +127,7 @@ fn read_all(
 
 // The input has ended.
 fn on_end(
+    to: Stdout,
     s: State,
     head: &mut Head,
     links: &mut Links,
@@ -130,9 +141,9 @@ fn on_end(
     requires { Ready s line.now outbox.old out.old }
 {
     let step = step::finish(s, head, links, searches, numbers, texts, line, outbox, out);
-    write(out, step.len);
+    write(to, out, step.len);
     let last = step.state;
-    print_due(last, outbox, out);
+    print_due(to, last, outbox, out);
 }
 
 // The arrays of an engine that has not begun: any content would do.
@@ -157,7 +168,7 @@ fn no_texts() -> Texts {
 }
 
 // From the first byte of standard input to its end.
-pub fn run(traced: bool) {
+pub fn run(from: &mut Stdin, to: Stdout, traced: bool) {
     let mut head = no_head();
     let mut links = no_links();
     let mut searches = no_searches();
@@ -165,8 +176,10 @@ pub fn run(traced: bool) {
     let mut texts = no_texts();
     let mut outbox = state::no_outbox();
     let mut line = state::no_line();
-    let mut out = io::buffer();
+    let mut out = [0u8; 4096];
     let last = read_all(
+        from,
+        to,
         state::start(traced),
         &mut head,
         &mut links,
@@ -178,6 +191,7 @@ pub fn run(traced: bool) {
         &mut out,
     );
     on_end(
+        to,
         last,
         &mut head,
         &mut links,

@@ -98,7 +98,7 @@ fn read_all(
     requires { Ready s line.old outbox.old out.old }
     ensures { Ready result line.new outbox.new out.new × Reads s (engine head.old links.old searches.old numbers.old texts.old) line.old outbox.old result (engine head.new links.new searches.new numbers.new texts.new) line.new outbox.new }
 {
-    let mut chunk = [0u8; 4096];
+    let mut chunk = buffer();
     let mut state = s;
     let mut turns: u64 = 0xFFFF_FFFF_FFFF_FFFF;
     while 0 < turns {
@@ -167,6 +167,13 @@ fn no_texts() -> Texts {
     [0; TEXTS_SIZE]
 }
 
+// Room for a chunk of the input, and for a piece of the output.
+fn buffer() -> [u8; 4096]
+    ensures { 4096 ≡ length result }
+{
+    [0; 4096]
+}
+
 // From the first byte of standard input to its end.
 pub fn run(from: &mut Stdin, to: Stdout, traced: bool) {
     let mut head = no_head();
@@ -176,7 +183,7 @@ pub fn run(from: &mut Stdin, to: Stdout, traced: bool) {
     let mut texts = no_texts();
     let mut outbox = state::no_outbox();
     let mut line = state::no_line();
-    let mut out = [0u8; 4096];
+    let mut out = buffer();
     let last = read_all(
         from,
         to,

@@ -21,7 +21,7 @@ fn write(to: Stdout, out: &[u8], len: usize) {
 }
 
 // Reads a chunk and answers how long it is: 0 where the input ends, or where a read fails.
-fn read(from: &mut Stdin, chunk: &mut [u8]) -> usize {
+fn read_chunk(from: &mut Stdin, chunk: &mut [u8]) -> usize {
     from.read(chunk).unwrap_or(0)
 }
 
@@ -102,7 +102,7 @@ fn read_all(
     let mut state = s;
     let mut turns: u64 = 0xFFFF_FFFF_FFFF_FFFF;
     while 0 < turns {
-        let n = read(from, &mut chunk);
+        let n = read_chunk(from, &mut chunk);
         if n == 0 {
             return state;
         }

@@ -93,6 +93,7 @@ module _ {K A : Type 0} (k : Key K A) (o : StrictOrder k.below k.same) where
   in_one (under {a = c} u h) a b (first e) (after j) s = absurd (apart a b c s (sym e) (each_at u b j))
   in_one (under {a = c} u h) a b (after i) (first f) s = absurd (apart b a c (sym s) (sym f) (each_at u a i))
   in_one (under u h) a b (after i) (after j) s = in_one h a b i j s
+  in_one empty a b x7 _ s = elim x7 [ ]
 
 -- a function that keeps the keys keeps the order
 module _ {K A : Type 0} (k : Key K A) (f : A → A) (keeps : (a : A) → k.of (f a) ≡ k.of a) where

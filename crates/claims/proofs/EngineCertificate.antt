@@ -1,5 +1,5 @@
 -- The certificate of the engine's functions.
-use Rattle.engine.proofs.Functions.{functions}
+use Rattle.engine.proofs.Learnt.{learnt}
 use Rattle.claims.proofs.Certificate.{Certificate}
 use Rattle.claims.proofs.Lists.{functions-claim, functions-logged}
 use Rattle.engine.proofs.calls.new.Statement as new
@@ -42,7 +42,7 @@ Meet M =
     × handle_timeout.statement M
     × reset-refresh-timer.statement M
 
-pub certificate : (M : Type 1) → Certificate (Meet M) functions
+pub certificate : (M : Type 1) → Certificate (Meet M) learnt
 certificate M = record {
   meet = (
     new-met.met,

@@ -1,5 +1,5 @@
 -- The certificate of the functions that a host links.
-use Rattle.host.proofs.Exports.{exports}
+use Rattle.host.proofs.Learnt.{learnt}
 use Rattle.claims.proofs.Certificate.{Certificate}
 use Rattle.claims.proofs.Lists.{exports-claim, exports-logged}
 use Rattle.host.proofs.exported.kohlsilk_lent_new.Statement as new
@@ -42,7 +42,7 @@ Meet M =
     × handle_timeout.statement M
     × reset-refresh-timer.statement M
 
-pub certificate : (M : Type 1) → Certificate (Meet M) exports
+pub certificate : (M : Type 1) → Certificate (Meet M) learnt
 certificate M = record {
   meet = (
     new-met.met,

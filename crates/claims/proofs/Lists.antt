@@ -6,7 +6,7 @@ use Rattle.engine.specs.Calls.{Call}
 use Rattle.engine.specs.Arrays.{Engine}
 use Rattle.engine.specs.Promises.{Answered, Answers, Begins}
 use Rattle.engine.specs.declared.answer.Answer.{Answer}
-use Rattle.engine.proofs.Contracts.{Loan, News, by-new, Gives, by-new-link, by-deleted_link, by-new-address, by-deleted_address, by-subscribe, by-advertise, by-deadvertise, by-refresh, by-on-data, by-handle_timeout, by-reset}
+use Rattle.engine.proofs.Contracts.{Loan, MutLoan, News, by-new, Gives, by-new-link, by-deleted_link, by-new-address, by-deleted_address, by-subscribe, by-advertise, by-deadvertise, by-refresh, by-on-data, by-handle_timeout, by-reset}
 use Rattle.engine.proofs.Functions.{functions}
 use Rattle.host.proofs.Exports.{exports}
 use Rattle.claims.specs.Claim.{Log, Claim}
@@ -40,31 +40,35 @@ functions-claim l = demand3 laws begins answers l
 lend : List ℕ → Loan
 lend l = record { ref_ptr = (0, 0); now = l }
 
+-- and one lent to be changed
+lend_mut : List ℕ → MutLoan
+lend_mut l = record { ref_ptr = (0, 0); ghost_name = 0; now = l }
+
 functions-give : Given (News functions) (Gives functions)
-unfolding lend
+unfolding lend lend_mut
 functions-give = record {
-  by-new = λ seed time head' numbers r p links searches texts. by-new ([], ([], tt)) (lend []) (lend head') (lend numbers) links searches texts r p;
+  by-new = λ seed time head' numbers r p links searches texts. by-new ([], ([], tt)) (lend_mut []) (lend_mut head') (lend numbers) links searches texts r p;
   by-new-link = λ h h' ls ls' ss ns ts index flags outcome o o' r p.
-      by-new-link ([], ([], ([], ([], ([], ([], tt)))))) (lend h) (lend h') (lend ls) (lend ls') (lend ss) (lend ns) (lend ts) index flags outcome (lend o) (lend o') r p;
+      by-new-link ([], ([], ([], ([], ([], ([], tt)))))) (lend_mut h) (lend_mut h') (lend_mut ls) (lend_mut ls') (lend ss) (lend ns) (lend ts) index flags outcome (lend_mut o) (lend_mut o') r p;
   by-deleted_link = λ h h' ls ls' ns index outcome r p searches texts.
-      by-deleted_link ([], ([], ([], tt))) (lend h) (lend h') (lend ls) (lend ls') (lend ns) searches texts index outcome r p;
+      by-deleted_link ([], ([], ([], tt))) (lend_mut h) (lend_mut h') (lend_mut ls) (lend_mut ls') (lend ns) searches texts index outcome r p;
   by-new-address = λ h h' ls ls' ss ns ts index a o o' r p.
-      by-new-address ([], ([], ([], ([], ([], ([], ([], tt))))))) (lend h) (lend h') (lend ls) (lend ls') (lend ss) (lend ns) (lend ts) index (lend a) (lend o) (lend o') r p;
+      by-new-address ([], ([], ([], ([], ([], ([], ([], tt))))))) (lend_mut h) (lend_mut h') (lend_mut ls) (lend_mut ls') (lend ss) (lend ns) (lend ts) index (lend a) (lend_mut o) (lend_mut o') r p;
   by-deleted_address = λ h h' ls ls' ns index a r p searches texts.
-      by-deleted_address ([], ([], ([], ([], tt)))) (lend h) (lend h') (lend ls) (lend ls') (lend ns) searches texts index (lend a) r p;
+      by-deleted_address ([], ([], ([], ([], tt)))) (lend_mut h) (lend_mut h') (lend_mut ls) (lend_mut ls') (lend ns) searches texts index (lend a) r p;
   by-subscribe = λ h h' ls ss ss' ns k o o' r p texts.
-      by-subscribe ([], ([], ([], ([], ([], ([], tt)))))) (lend h) (lend h') (lend ls) (lend ss) (lend ss') (lend ns) texts (lend k) (lend o) (lend o') r p;
+      by-subscribe ([], ([], ([], ([], ([], ([], tt)))))) (lend_mut h) (lend_mut h') (lend ls) (lend_mut ss) (lend_mut ss') (lend ns) texts (lend k) (lend_mut o) (lend_mut o') r p;
   by-advertise = λ h h' ls ns ns' ts ts' n k l o o' r p searches.
-      by-advertise ([], ([], ([], ([], ([], ([], ([], ([], tt)))))))) (lend h) (lend h') (lend ls) (lend ns) (lend ns') (lend ts) (lend ts') searches (lend n) (lend k) (lend l) (lend o) (lend o') r p;
+      by-advertise ([], ([], ([], ([], ([], ([], ([], ([], tt)))))))) (lend_mut h) (lend_mut h') (lend ls) (lend_mut ns) (lend_mut ns') (lend_mut ts) (lend_mut ts') searches (lend n) (lend k) (lend l) (lend_mut o) (lend_mut o') r p;
   by-deadvertise = λ h h' ls ns ns' ts ts' n o o' r p searches.
-      by-deadvertise ([], ([], ([], ([], ([], ([], tt)))))) (lend h) (lend h') (lend ls) (lend ns) (lend ns') (lend ts) (lend ts') searches (lend n) (lend o) (lend o') r p;
+      by-deadvertise ([], ([], ([], ([], ([], ([], tt)))))) (lend_mut h) (lend_mut h') (lend ls) (lend_mut ns) (lend_mut ns') (lend_mut ts) (lend_mut ts') searches (lend n) (lend_mut o) (lend_mut o') r p;
   by-refresh = λ h ls ss ns ts o o' r p.
-      by-refresh ([], ([], ([], ([], ([], ([], tt)))))) (lend h) (lend ls) (lend ss) (lend ns) (lend ts) (lend o) (lend o') r p;
+      by-refresh ([], ([], ([], ([], ([], ([], tt)))))) (lend h) (lend ls) (lend ss) (lend ns) (lend ts) (lend_mut o) (lend_mut o') r p;
   by-on-data = λ h ss ns ns' ts ts' time sender receiver d r p links.
-      by-on-data ([], ([], ([], ([], ([], tt))))) (lend h) (lend ss) (lend ns) (lend ns') (lend ts) (lend ts') links time sender receiver (lend d) r p;
+      by-on-data ([], ([], ([], ([], ([], tt))))) (lend h) (lend ss) (lend_mut ns) (lend_mut ns') (lend_mut ts) (lend_mut ts') links time sender receiver (lend d) r p;
   by-handle_timeout = λ h h' ls ss ns ns' ts time o o' r p.
-      by-handle_timeout ([], ([], ([], ([], ([], ([], tt)))))) (lend h) (lend h') (lend ls) (lend ss) (lend ns) (lend ns') (lend ts) time (lend o) (lend o') r p;
-  by-reset = λ h h' ns time r p links searches texts. by-reset ([], ([], tt)) (lend h) (lend h') (lend ns) links searches texts time r p;
+      by-handle_timeout ([], ([], ([], ([], ([], ([], tt)))))) (lend_mut h) (lend_mut h') (lend ls) (lend ss) (lend_mut ns) (lend_mut ns') (lend ts) time (lend_mut o) (lend_mut o') r p;
+  by-reset = λ h h' ns time r p links searches texts. by-reset ([], ([], tt)) (lend_mut h) (lend_mut h') (lend ns) links searches texts time r p;
 }
 
 pub functions-logged : (seed time : ℕ) → Word seed → (lent : List (Call × List ℕ)) → Lent lent → Logged (News functions) (Gives functions) seed time lent

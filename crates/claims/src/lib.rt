@@ -1,5 +1,6 @@
 // The claims about the engine as a whole, each the contract of a function that does nothing: the check names them as proved.
 #![tactic(auto)]
+
 ghost use Rattle.std.specs.Prelude.{ℕ, ◌≤◌, ◌≡◌, true, List, length};
 ghost use Rattle.message.specs.RoundTrip.{RoundTrip};
 ghost use Rattle.engine.specs.Sizes.{outbox_size};

@@ -1,36 +1,36 @@
--- The engine's twelve functions by their own contracts: what each gives whoever calls it (`Learnt`, which Rattle makes of the source). Crate claims has demand 3 of every list of them.
+-- The engine's twelve functions by their own contracts, as src/calls.rt has them: an array that a call is lent to change is `.now` before it and, primed, after it. Learnt sees that they are what
+-- Rattle makes of the source; a clause may not cite what it makes, so that this file says them again. Crate claims has demand 3 of every list of them.
+use Prim.Native.Nat.{ℕ}
+use mathlib.Core.List.{List, []}
+use lib.ListN.{length}
+use Rattle.engine.specs.Calls.{NewLink, DeletedLink, NewAddress, DeletedAddress, Subscribe, Advertise, Deadvertise, Refresh, Datagram, Timeout, ResetTimer}
+use Rattle.engine.specs.Arrays.{engine}
+use Rattle.engine.specs.Promises.{answered, Answers, Begins}
 use Rattle.engine.proofs.Contracts.{Contracts}
-use Rattle.engine.proofs.calls.new.Reads as new
-use Rattle.engine.proofs.calls.new_link.Reads as new-link
-use Rattle.engine.proofs.calls.deleted_link.Reads as deleted_link
-use Rattle.engine.proofs.calls.new_address.Reads as new-address
-use Rattle.engine.proofs.calls.deleted_address.Reads as deleted_address
-use Rattle.engine.proofs.calls.subscribe.Reads as subscribe
-use Rattle.engine.proofs.calls.advertise.Reads as advertise
-use Rattle.engine.proofs.calls.deadvertise.Reads as deadvertise
-use Rattle.engine.proofs.calls.refresh.Reads as refresh
-use Rattle.engine.proofs.calls.on_data.Reads as on-data
-use Rattle.engine.proofs.calls.handle_timeout.Reads as handle_timeout
-use Rattle.engine.proofs.calls.reset_refresh_timer.Reads as reset
 
--- the contract of each, as its caller has it
 abbrev pub functions : Contracts
 functions = record {
-  new = λ κs h h' ns seed time r. new.Learnt κs (h, (ns, (seed, (time, tt)))) r (h', (ns, (seed, (time, tt))));
+  new = λ κs h h' ns seed time r. (links searches texts : List ℕ) → Begins seed time (answered (engine h'.now links searches ns.now texts) r);
   new-link = λ κs h h' ls ls' ss ns ts index flags outcome o o' r.
-      new-link.Learnt κs (h, (ls, (ss, (ns, (ts, (index, (flags, (outcome, (o, tt))))))))) r (h', (ls', (ss, (ns, (ts, (index, (flags, (outcome, (o', tt)))))))));
-  deleted_link = λ κs h h' ls ls' ns index outcome r. deleted_link.Learnt κs (h, (ls, (ns, (index, (outcome, tt))))) r (h', (ls', (ns, (index, (outcome, tt)))));
+      Answers (engine h.now ls.now ss.now ns.now ts.now) (NewLink index flags outcome (length o.now)) o.now o'.now (answered (engine h'.now ls'.now ss.now ns.now ts.now) r);
+  deleted_link = λ κs h h' ls ls' ns index outcome r.
+      (searches texts : List ℕ) → Answers (engine h.now ls.now searches ns.now texts) (DeletedLink index outcome) [] [] (answered (engine h'.now ls'.now searches ns.now texts) r);
   new-address = λ κs h h' ls ls' ss ns ts index a o o' r.
-      new-address.Learnt κs (h, (ls, (ss, (ns, (ts, (index, (a, (o, tt)))))))) r (h', (ls', (ss, (ns, (ts, (index, (a, (o', tt))))))));
-  deleted_address = λ κs h h' ls ls' ns index a r. deleted_address.Learnt κs (h, (ls, (ns, (index, (a, tt))))) r (h', (ls', (ns, (index, (a, tt)))));
-  subscribe = λ κs h h' ls ss ss' ns k o o' r. subscribe.Learnt κs (h, (ls, (ss, (ns, (k, (o, tt)))))) r (h', (ls, (ss', (ns, (k, (o', tt))))));
+      Answers (engine h.now ls.now ss.now ns.now ts.now) (NewAddress index a.now (length o.now)) o.now o'.now (answered (engine h'.now ls'.now ss.now ns.now ts.now) r);
+  deleted_address = λ κs h h' ls ls' ns index a r.
+      (searches texts : List ℕ) → Answers (engine h.now ls.now searches ns.now texts) (DeletedAddress index a.now) [] [] (answered (engine h'.now ls'.now searches ns.now texts) r);
+  subscribe = λ κs h h' ls ss ss' ns k o o' r.
+      (texts : List ℕ) → Answers (engine h.now ls.now ss.now ns.now texts) (Subscribe k.now (length o.now)) o.now o'.now (answered (engine h'.now ls.now ss'.now ns.now texts) r);
   advertise = λ κs h h' ls ns ns' ts ts' n k l o o' r.
-      advertise.Learnt κs (h, (ls, (ns, (ts, (n, (k, (l, (o, tt)))))))) r (h', (ls, (ns', (ts', (n, (k, (l, (o', tt))))))));
-  deadvertise = λ κs h h' ls ns ns' ts ts' n o o' r. deadvertise.Learnt κs (h, (ls, (ns, (ts, (n, (o, tt)))))) r (h', (ls, (ns', (ts', (n, (o', tt))))));
-  refresh = λ κs h ls ss ns ts o o' r. refresh.Learnt κs (h, (ls, (ss, (ns, (ts, (o, tt)))))) r (h, (ls, (ss, (ns, (ts, (o', tt))))));
+      (searches : List ℕ) → Answers (engine h.now ls.now searches ns.now ts.now) (Advertise n.now k.now l.now (length o.now)) o.now o'.now (answered (engine h'.now ls.now searches ns'.now ts'.now) r);
+  deadvertise = λ κs h h' ls ns ns' ts ts' n o o' r.
+      (searches : List ℕ) → Answers (engine h.now ls.now searches ns.now ts.now) (Deadvertise n.now (length o.now)) o.now o'.now (answered (engine h'.now ls.now searches ns'.now ts'.now) r);
+  refresh = λ κs h ls ss ns ts o o' r.
+      Answers (engine h.now ls.now ss.now ns.now ts.now) (Refresh (length o.now)) o.now o'.now (answered (engine h.now ls.now ss.now ns.now ts.now) r);
   on-data = λ κs h ss ns ns' ts ts' time sender receiver d r.
-      on-data.Learnt κs (h, (ss, (ns, (ts, (time, (sender, (receiver, (d, tt)))))))) r (h, (ss, (ns', (ts', (time, (sender, (receiver, (d, tt))))))));
+      (links : List ℕ) → Answers (engine h.now links ss.now ns.now ts.now) (Datagram time sender receiver d.now) [] [] (answered (engine h.now links ss.now ns'.now ts'.now) r);
   handle_timeout = λ κs h h' ls ss ns ns' ts time o o' r.
-      handle_timeout.Learnt κs (h, (ls, (ss, (ns, (ts, (time, (o, tt))))))) r (h', (ls, (ss, (ns', (ts, (time, (o', tt)))))));
-  reset = λ κs h h' ns time r. reset.Learnt κs (h, (ns, (time, tt))) r (h', (ns, (time, tt)));
+      Answers (engine h.now ls.now ss.now ns.now ts.now) (Timeout time (length o.now)) o.now o'.now (answered (engine h'.now ls.now ss.now ns'.now ts.now) r);
+  reset = λ κs h h' ns time r.
+      (links searches texts : List ℕ) → Answers (engine h.now links searches ns.now texts) (ResetTimer time) [] [] (answered (engine h'.now links searches ns.now texts) r);
 }

@@ -44,3 +44,4 @@ pub mod Accepted
 pub mod NothingDue
 pub mod Contracts
 pub mod Functions
+pub mod Learnt

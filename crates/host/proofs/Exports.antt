@@ -1,42 +1,40 @@
--- The functions that a host links, by their own contracts: what each gives whoever calls it (`Learnt`, which Rattle makes of the source). They are the contracts of the engine's
+-- The functions that a host links, by their own contracts, as src/exported.rt has them (Learnt sees that they are what Rattle makes of the source). They are the contracts of the engine's
 -- functions to the letter, so that the claim about every list of those (crate claims) is about theirs too.
 use mathlib.Core.Path.{◌≡◌, refl}
+use Prim.Native.Nat.{ℕ}
+use mathlib.Core.List.{List, []}
+use lib.ListN.{length}
+use Rattle.engine.specs.Calls.{NewLink, DeletedLink, NewAddress, DeletedAddress, Subscribe, Advertise, Deadvertise, Refresh, Datagram, Timeout, ResetTimer}
+use Rattle.engine.specs.Arrays.{engine}
+use Rattle.engine.specs.Promises.{answered, Answers, Begins}
 use Rattle.engine.proofs.Contracts.{Contracts}
 use Rattle.engine.proofs.Functions.{functions}
-use Rattle.host.proofs.exported.kohlsilk_lent_new.Reads as new
-use Rattle.host.proofs.exported.kohlsilk_lent_new_link.Reads as new-link
-use Rattle.host.proofs.exported.kohlsilk_lent_deleted_link.Reads as deleted_link
-use Rattle.host.proofs.exported.kohlsilk_lent_new_address.Reads as new-address
-use Rattle.host.proofs.exported.kohlsilk_lent_deleted_address.Reads as deleted_address
-use Rattle.host.proofs.exported.kohlsilk_lent_subscribe.Reads as subscribe
-use Rattle.host.proofs.exported.kohlsilk_lent_advertise.Reads as advertise
-use Rattle.host.proofs.exported.kohlsilk_lent_deadvertise.Reads as deadvertise
-use Rattle.host.proofs.exported.kohlsilk_lent_refresh.Reads as refresh
-use Rattle.host.proofs.exported.kohlsilk_lent_on_data.Reads as on-data
-use Rattle.host.proofs.exported.kohlsilk_lent_handle_timeout.Reads as handle_timeout
-use Rattle.host.proofs.exported.kohlsilk_lent_reset_refresh_timer.Reads as reset
 
--- the contract of each, as its caller has it
 abbrev pub exports : Contracts
 exports = record {
-  new = λ κs h h' ns seed time r. new.Learnt κs (h, (ns, (seed, (time, tt)))) r (h', (ns, (seed, (time, tt))));
+  new = λ κs h h' ns seed time r. (links searches texts : List ℕ) → Begins seed time (answered (engine h'.now links searches ns.now texts) r);
   new-link = λ κs h h' ls ls' ss ns ts index flags outcome o o' r.
-      new-link.Learnt κs (h, (ls, (ss, (ns, (ts, (index, (flags, (outcome, (o, tt))))))))) r (h', (ls', (ss, (ns, (ts, (index, (flags, (outcome, (o', tt)))))))));
-  deleted_link = λ κs h h' ls ls' ns index outcome r. deleted_link.Learnt κs (h, (ls, (ns, (index, (outcome, tt))))) r (h', (ls', (ns, (index, (outcome, tt)))));
+      Answers (engine h.now ls.now ss.now ns.now ts.now) (NewLink index flags outcome (length o.now)) o.now o'.now (answered (engine h'.now ls'.now ss.now ns.now ts.now) r);
+  deleted_link = λ κs h h' ls ls' ns index outcome r.
+      (searches texts : List ℕ) → Answers (engine h.now ls.now searches ns.now texts) (DeletedLink index outcome) [] [] (answered (engine h'.now ls'.now searches ns.now texts) r);
   new-address = λ κs h h' ls ls' ss ns ts index a o o' r.
-      new-address.Learnt κs (h, (ls, (ss, (ns, (ts, (index, (a, (o, tt)))))))) r (h', (ls', (ss, (ns, (ts, (index, (a, (o', tt))))))));
-  deleted_address = λ κs h h' ls ls' ns index a r. deleted_address.Learnt κs (h, (ls, (ns, (index, (a, tt))))) r (h', (ls', (ns, (index, (a, tt)))));
-  subscribe = λ κs h h' ls ss ss' ns k o o' r. subscribe.Learnt κs (h, (ls, (ss, (ns, (k, (o, tt)))))) r (h', (ls, (ss', (ns, (k, (o', tt))))));
+      Answers (engine h.now ls.now ss.now ns.now ts.now) (NewAddress index a.now (length o.now)) o.now o'.now (answered (engine h'.now ls'.now ss.now ns.now ts.now) r);
+  deleted_address = λ κs h h' ls ls' ns index a r.
+      (searches texts : List ℕ) → Answers (engine h.now ls.now searches ns.now texts) (DeletedAddress index a.now) [] [] (answered (engine h'.now ls'.now searches ns.now texts) r);
+  subscribe = λ κs h h' ls ss ss' ns k o o' r.
+      (texts : List ℕ) → Answers (engine h.now ls.now ss.now ns.now texts) (Subscribe k.now (length o.now)) o.now o'.now (answered (engine h'.now ls.now ss'.now ns.now texts) r);
   advertise = λ κs h h' ls ns ns' ts ts' n k l o o' r.
-      advertise.Learnt κs (h, (ls, (ns, (ts, (n, (k, (l, (o, tt)))))))) r (h', (ls, (ns', (ts', (n, (k, (l, (o', tt))))))));
-  deadvertise = λ κs h h' ls ns ns' ts ts' n o o' r. deadvertise.Learnt κs (h, (ls, (ns, (ts, (n, (o, tt)))))) r (h', (ls, (ns', (ts', (n, (o', tt))))));
-  refresh = λ κs h ls ss ns ts o o' r. refresh.Learnt κs (h, (ls, (ss, (ns, (ts, (o, tt)))))) r (h, (ls, (ss, (ns, (ts, (o', tt))))));
+      (searches : List ℕ) → Answers (engine h.now ls.now searches ns.now ts.now) (Advertise n.now k.now l.now (length o.now)) o.now o'.now (answered (engine h'.now ls.now searches ns'.now ts'.now) r);
+  deadvertise = λ κs h h' ls ns ns' ts ts' n o o' r.
+      (searches : List ℕ) → Answers (engine h.now ls.now searches ns.now ts.now) (Deadvertise n.now (length o.now)) o.now o'.now (answered (engine h'.now ls.now searches ns'.now ts'.now) r);
+  refresh = λ κs h ls ss ns ts o o' r.
+      Answers (engine h.now ls.now ss.now ns.now ts.now) (Refresh (length o.now)) o.now o'.now (answered (engine h.now ls.now ss.now ns.now ts.now) r);
   on-data = λ κs h ss ns ns' ts ts' time sender receiver d r.
-      on-data.Learnt κs (h, (ss, (ns, (ts, (time, (sender.address, (sender.port, (receiver, (d, tt))))))))) r
-      (h, (ss, (ns', (ts', (time, (sender.address, (sender.port, (receiver, (d, tt)))))))));
+      (links : List ℕ) → Answers (engine h.now links ss.now ns.now ts.now) (Datagram time (record { address = sender.address; port = sender.port }) receiver d.now) [] [] (answered (engine h.now links ss.now ns'.now ts'.now) r);
   handle_timeout = λ κs h h' ls ss ns ns' ts time o o' r.
-      handle_timeout.Learnt κs (h, (ls, (ss, (ns, (ts, (time, (o, tt))))))) r (h', (ls, (ss, (ns', (ts, (time, (o', tt)))))));
-  reset = λ κs h h' ns time r. reset.Learnt κs (h, (ns, (time, tt))) r (h', (ns, (time, tt)));
+      Answers (engine h.now ls.now ss.now ns.now ts.now) (Timeout time (length o.now)) o.now o'.now (answered (engine h'.now ls.now ss.now ns'.now ts.now) r);
+  reset = λ κs h h' ns time r.
+      (links searches texts : List ℕ) → Answers (engine h.now links searches ns.now texts) (ResetTimer time) [] [] (answered (engine h'.now links searches ns.now texts) r);
 }
 
 pub exports-same : exports ≡ functions

@@ -6,16 +6,12 @@ use Rattle.engine.specs.Arrays.{held}
 use Rattle.engine.proofs.RecordCount.{count-is, need-is}
 use Rattle.engine.proofs.RecordSize.{layout-length}
 use Rattle.engine.proofs.Bound.{records-bound, held-few}
-use Rattle.claims.proofs.records_counted.Statement.{statement}
-use Rattle.claims.proofs.records_counted.Tie as tie
+use Rattle.claims.proofs.records_counted.Goals as goal
 
-returns : tie.Need-returns
+pub returns : goal.returns
 returns c = (
   λ h call.
       (sym (count-is h.context h.advertisements call), need-is h.context h.advertisements call ∙ sym (layout-length (records h.context h.advertisements call))),
   λ e call.
       omega (arith, need-is (held e).context (held e).advertisements call, records-bound (held e).context (held e).advertisements (held-few e) call),
 )
-
-pub records-counted-spec : {M : Type 1} → statement M
-records-counted-spec = tie.close (tie.spec returns)

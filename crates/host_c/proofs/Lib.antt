@@ -1,0 +1,2 @@
+-- The contracts of what the archive exports.
+pub mod Learnt

@@ -40,10 +40,10 @@ any_not_good (t ∷ ts) = not (good_text t.text) || any_not_good ts
 
 -- 3, 4 and 6, "in the order listed", over all texts, for a message and a buffer of these lengths
 unfoldable pub build_refusal : List Bounded → ℕ → ℕ → ℕ
-build_refusal texts messageLength bufferLength =
+build_refusal texts message_length buffer_length =
     cond (any_over_size texts) text_over_size
     (cond (any_not_good texts) text_not_good
-    (cond (ltb bufferLength messageLength) buffer_short
+    (cond (ltb buffer_length message_length) buffer_short
     accepted))
 
 -- what a `build_*` answers and leaves in its buffer: a refused one leaves it as it was and answers length 0
@@ -105,61 +105,61 @@ boot_headers = []
 
 -- a search
 unfoldable pub search_headers : List ℕ → List HeaderField
-search_headers searchTarget =
+search_headers search_target =
     field "HOST" host_text
     ∷ field "MAN" (bytes "\"ssdp:discover\"")
     ∷ field "MX" (bytes "5")
-    ∷ field "ST" searchTarget
+    ∷ field "ST" search_target
     ∷ []
 
 unfoldable pub search_text : List ℕ → List ℕ
-search_text searchTarget = message search_line (search_headers searchTarget)
+search_text search_target = message search_line (search_headers search_target)
 
 -- the answer to a search
 unfoldable pub response_headers : List ℕ → List ℕ → List ℕ → List HeaderField
-response_headers searchTarget uniqueServiceName location =
+response_headers search_target unique_service_name location =
     field "CACHE-CONTROL" max_age_text
-    ∷ field "ST" searchTarget
-    ∷ field "USN" uniqueServiceName
+    ∷ field "ST" search_target
+    ∷ field "USN" unique_service_name
     ∷ field "LOCATION" location
     ∷ field "SERVER" server_text
     ∷ boot_headers
 
 unfoldable pub response_text : List ℕ → List ℕ → List ℕ → List ℕ
-response_text searchTarget uniqueServiceName location = message response_line (response_headers searchTarget uniqueServiceName location)
+response_text search_target unique_service_name location = message response_line (response_headers search_target unique_service_name location)
 
 -- a service is there
 unfoldable pub notify_headers : List ℕ → List ℕ → List ℕ → List HeaderField
-notify_headers notificationType uniqueServiceName location =
+notify_headers notification_type unique_service_name location =
     field "HOST" host_text
     ∷ field "CACHE-CONTROL" max_age_text
     ∷ field "LOCATION" location
-    ∷ field "NT" notificationType
+    ∷ field "NT" notification_type
     ∷ field "NTS" (bytes "ssdp:alive")
-    ∷ field "USN" uniqueServiceName
+    ∷ field "USN" unique_service_name
     ∷ field "SERVER" server_text
     ∷ boot_headers
 
 unfoldable pub notify_text : List ℕ → List ℕ → List ℕ → List ℕ
-notify_text notificationType uniqueServiceName location = message notify_line (notify_headers notificationType uniqueServiceName location)
+notify_text notification_type unique_service_name location = message notify_line (notify_headers notification_type unique_service_name location)
 
 -- a service goes
 unfoldable pub byebye_headers : List ℕ → List ℕ → List HeaderField
-byebye_headers notificationType uniqueServiceName =
+byebye_headers notification_type unique_service_name =
     field "HOST" host_text
     ∷ field "CACHE-CONTROL" max_age_text
-    ∷ field "NT" notificationType
+    ∷ field "NT" notification_type
     ∷ field "NTS" (bytes "ssdp:byebye")
-    ∷ field "USN" uniqueServiceName
+    ∷ field "USN" unique_service_name
     ∷ field "SERVER" server_text
     ∷ boot_headers
 
 unfoldable pub byebye_text : List ℕ → List ℕ → List ℕ
-byebye_text notificationType uniqueServiceName = message notify_line (byebye_headers notificationType uniqueServiceName)
+byebye_text notification_type unique_service_name = message notify_line (byebye_headers notification_type unique_service_name)
 
 -- the texts that each `build_*` is given, with their largest sizes
 abbrev pub search_texts : List ℕ → List Bounded
-search_texts searchTarget = at_most type_max searchTarget ∷ []
+search_texts search_target = at_most type_max search_target ∷ []
 
 abbrev pub byebye_texts : List ℕ → List ℕ → List Bounded
 byebye_texts type name = at_most type_max type ∷ at_most name_max name ∷ []

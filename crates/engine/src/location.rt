@@ -53,6 +53,7 @@ fn scheme_end(location: &[u8]) -> usize
 }
 
 // How much of what follows `://` is the host that goes.
+#[tactic(auto, unfolding(crate::specs::Location::host_length))]
 fn host_length(s: &[u8]) -> usize
     ensures { result ≡ host_length s.now }
 {

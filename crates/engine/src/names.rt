@@ -113,6 +113,7 @@ fn field_at(texts: &[u8], place: usize) -> [u8; TYPE_SIZE]
 }
 
 // A waiting reply from its numbers.
+#[tactic(auto, unfolding(crate::specs::Arrays::reply_of))]
 fn reply_of(code: u64, due: u64, sender: u64, port: u64, receiver: u64) -> ResponseNeeded
     ensures { result ≡ reply_of code due sender port receiver }
 {

@@ -34,6 +34,7 @@ fn seed_byte(seed: u32, phase: u8) -> u32
 }
 
 // The milliseconds from the salvo of a phase to the next one.
+#[tactic(auto, unfolding(crate::specs::RefreshTimer::period))]
 fn period_of(seed: u32, phase: u8) -> u64
     ensures { result ≡ period seed phase }
 {

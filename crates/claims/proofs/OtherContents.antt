@@ -9,10 +9,9 @@ use Rattle.message.specs.declared.Message.TheVariants.{NotifyAlive, NotifyByeBye
 use Rattle.engine.specs.Rows.{rows}
 use Rattle.engine.specs.Held.{Text, Link, Advertisement, Held, holding}
 use Rattle.engine.specs.Calls.{Call, asks, Counts}
-use Rattle.engine.specs.Records.{flat, records}
+use Rattle.engine.specs.Records.{flat}
 use Rattle.engine.specs.Layout.{layout, written}
 use Rattle.engine.specs.Replies.{sum_of, waits, waiting, sooner, soonest, result, results}
-use Rattle.engine.specs.Refusals.{refusal}
 use Rattle.engine.specs.Engine.{refusal_of, poll, Notified, Step, answer_with, refused_by, accepted, unless, step}
 use Rattle.engine.specs.Arrays.{numbers_width, texts_width, link_rows, search_rows, reply_in, entry_in, entries, Engine, engine, held}
 use Rattle.engine.specs.Promises.{Answers, answered}

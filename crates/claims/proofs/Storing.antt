@@ -1,9 +1,9 @@
 -- What rows can hold, and arrays that hold it: the inverse of the view (engine/specs/Arrays). Rows cannot hold every `Held`: a text longer than its place, a number
 -- wider than its type or an entry more than the table has no place. `Fits` says what can be held; `held_back`, that the arrays made of it hold just that.
 use mathlib.Core.Path.{◌≡◌, refl, sym, ◌∙◌, ap}
-use mathlib.Core.Bool.{Bool, true, false, cond, not}
+use mathlib.Core.Bool.{Bool, true, false, not}
 use mathlib.Core.List.{List, [], ◌∷◌, ◌++◌, map, append_assoc, append-nil}
-use Prim.Native.Nat.{ℕ, min, ◌*◌, ◌-◌, ◌≤◌}
+use Prim.Native.Nat.{ℕ, ◌*◌, ◌-◌, ◌≤◌}
 use native.Mathlib.Nat.{min-eq_left, mod-eq_of_lt, mul-suc, mul-zero}
 use native.Mathlib.Omega.{arith}
 use lib.Dec.{eqb}

@@ -7,7 +7,6 @@ use native.Mathlib.Omega.{arith}
 use lib.ListN.{length, take, drop, drop_of_length-le}
 use lib.Seq.{take_all, take_at, length-take-le}
 use Rattle.text.specs.Put.{overwritten, Put}
-use Rattle.engine.specs.Refusals.{over}
 
 -- cut to the array's m bytes, it is the text cut to m bytes
 pub in_front : (text : List ℕ) {b b' t : List ℕ} {m r : ℕ} → length b ≡ m → t ≡ take m text → Put b 0 t b' r → take (length text) b' ≡ take m text

@@ -12,7 +12,7 @@ use Rattle.engine.specs.Table.{known, entry_of}
 use Rattle.engine.specs.Held.{Text, Context, Advertisement, advertised}
 use Rattle.engine.specs.Calls.{Call, NewLink, DeletedLink, NewAddress, DeletedAddress, Subscribe, Advertise, Deadvertise, Refresh, Datagram, Timeout, ResetTimer}
 use Rattle.engine.specs.Links.{addresses_of, any_up, up_addresses, address_of, link_at, stores}
-use Rattle.engine.specs.Records.{Record, SearchFrom, NotifyFrom, flat, any_all, searches_of, notify, byebye_on, all_from, refresh_on, refresh_records, address_records, is_due, reply_records, due_records, salvo_due, turns_up, records}
+use Rattle.engine.specs.Records.{Record, SearchFrom, NotifyFrom, flat, any_all, searches_of, notify, byebye_on, all_from, refresh_records, address_records, is_due, reply_records, due_records, salvo_due, turns_up, records}
 use Rattle.engine.specs.Replies.{sum_of, is_alone, is_group, alone_at, group_at}
 use Rattle.engine.specs.Need.{searches_count, record_count, need}
 use Rattle.engine.specs.Engine.{names_of}

@@ -4,7 +4,7 @@ use mathlib.Core.List.{List, [], ◌∷◌, ◌++◌, append_assoc, append-nil}
 use Prim.Native.Nat.{ℕ, zero, suc, ◌+◌, ◌*◌, ◌-◌, ◌≤◌, ◌<◌}
 use native.Mathlib.Nat.{add-zero, add-suc, zero-add, mul-zero, mul-suc, mul-add}
 use native.Mathlib.Omega.{arith}
-use lib.ListN.{length, take, drop, set, get_or, length-drop, length-append, take-append-drop}
+use lib.ListN.{length, take, drop, set, get_or, length-drop}
 use lib.Seq.{take-add, drop-drop, take_at, drop_at, take_all, take-take, length-take-le, set_split, take-append-le, slice}
 use Rattle.engine.specs.Rows.{row, rows, lines}
 use Rattle.engine.specs.Slots.{insert_at, remove_at}

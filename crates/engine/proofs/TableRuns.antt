@@ -15,7 +15,6 @@ use Rattle.engine.proofs.Flat.{flat-one}
 use Rattle.engine.proofs.Sending as sending
 use Rattle.engine.proofs.Runs as runs
 use Rattle.engine.proofs.Runs.{Run}
-use Rattle.engine.proofs.Counting as counting
 use Rattle.engine.proofs.TableRows.{lines-length, lines_at}
 
 -- ---- a loop over all rows of a table

@@ -1,5 +1,5 @@
 -- What a search and a handle_timeout make of one advertisement, case by case of its waiting reply, and what each counts.
-use mathlib.Core.Path.{◌≡◌, refl, ap}
+use mathlib.Core.Path.{◌≡◌, refl}
 use mathlib.Core.Bool.{Bool, true, false}
 use mathlib.Core.List.{List, [], ◌∷◌, map}
 use Prim.Native.Nat.{ℕ}

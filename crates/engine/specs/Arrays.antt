@@ -5,7 +5,7 @@
 --   searches  a row of bytes for each subscription: the length of its type, the type
 --   numbers   a row for each name: lengths of name, type, location and answer type; reply (0 none, 1 to the group, else to a lone searcher), instant, sender, port, receiver
 --   texts     a row of bytes for each name: name, type, location, answer type
-use Rattle.std.specs.Prelude.{ℕ, min, ◌+◌, ◌*◌, ◌%◌, ◌<◌, ◌≤◌, ◌≡◌, cond, not, List, [], map, eqb, length, take, drop, get_or}
+use Rattle.std.specs.Prelude.{ℕ, min, ◌+◌, ◌*◌, ◌%◌, ◌≡◌, cond, not, List, map, eqb, length, take, drop, get_or}
 use Rattle.message.specs.Build.{type_max, name_max}
 use Rattle.engine.specs.Sizes.{advertisements_max, subscriptions_max, links_max, addresses_max, location_max}
 use Rattle.engine.specs.Rows.{row, rows, lines}

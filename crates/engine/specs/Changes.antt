@@ -1,5 +1,5 @@
 -- What a function makes of a row, of an entry of a table, and of every entry.
-use Rattle.std.specs.Prelude.{ℕ, ◌+◌, ◌*◌, ◌≤◌, ◌≡◌, Bool, List, [], ◌++◌, map, length, take, drop, set, get_or}
+use Rattle.std.specs.Prelude.{ℕ, ◌*◌, ◌≤◌, ◌≡◌, Bool, List, [], ◌++◌, map, length, take, drop, set, get_or}
 use Rattle.text.specs.Bytes.{equal}
 use Rattle.engine.specs.Target.{ssdp_all}
 use Rattle.engine.specs.Held.{Text, Link, Advertisement}

@@ -1,7 +1,7 @@
 -- A count above the array means the whole array.
 use mathlib.Core.Path.{sym, ◌∙◌, ap}
 use Prim.Native.Nat.{min}
-use lib.ListN.{length-take, length-map}
+use lib.ListN.{length-take}
 use borrow.Author.Rules.{rules}
 use Rattle.engine.proofs.address.count_of.Goals as goal
 

@@ -2,7 +2,7 @@
 use mathlib.Core.Path.{◌≡◌, sym, ◌∙◌, ap}
 use Prim.Native.Nat.{ℕ, min}
 use lib.Dec.{ltb}
-use lib.ListN.{length, take, length-take, length-map}
+use lib.ListN.{length, take, length-take}
 use Rattle.engine.specs.Addresses.{place_of}
 use Rattle.engine.proofs.AddressLists as addresses
 use borrow.Author.Rules.{rules}

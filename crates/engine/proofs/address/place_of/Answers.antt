@@ -1,6 +1,4 @@
-use mathlib.Core.Path.{◌≡◌, sym, ◌∙◌}
-use Prim.Native.Nat.{◌-◌}
-use lib.ListN.{length-map}
+use mathlib.Core.Path.{◌≡◌, ◌∙◌}
 use Rattle.engine.proofs.Slots as slots
 use Rattle.engine.proofs.AddressLists as addresses
 use borrow.Author.Rules.{rules}

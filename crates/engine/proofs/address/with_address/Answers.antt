@@ -2,7 +2,7 @@
 use mathlib.Core.Path.{sym, ◌∙◌, ap}
 use mathlib.Core.Bool.{true≢false}
 use borrow.Author.Tests.{le-leb}
-use lib.ListN.{length, take, length-take, length-map}
+use lib.ListN.{length, take, length-take}
 use Rattle.engine.specs.Held.{link_of}
 use Rattle.engine.specs.Links.{link_with}
 use Rattle.engine.proofs.Slots as slots

@@ -1,6 +1,6 @@
 -- An address that is held has a place, which the last takes; one that is not held leaves the list as it is.
-use mathlib.Core.Path.{sym, ◌∙◌, ap}
-use lib.ListN.{take, length-take, length-map}
+use mathlib.Core.Path.{sym, ap}
+use lib.ListN.{take, length-take}
 use Rattle.engine.specs.Held.{link_of}
 use Rattle.engine.specs.Links.{link_with}
 use Rattle.engine.proofs.AddressLists as addresses

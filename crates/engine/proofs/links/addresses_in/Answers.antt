@@ -1,5 +1,4 @@
 use mathlib.Core.Path.{refl, ◌∙◌}
-use Prim.Native.Nat.{◌-◌}
 use Rattle.engine.proofs.Copies.{copied-turn, copied_all}
 use Rattle.engine.proofs.LinkRows as links
 use borrow.Author.Rules.{rules}

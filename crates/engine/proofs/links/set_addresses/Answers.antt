@@ -1,4 +1,3 @@
-use Prim.Native.Nat.{◌-◌}
 use Rattle.engine.specs.Sizes.{addresses_max}
 use Rattle.engine.specs.Arrays.{first_address}
 use Rattle.engine.proofs.Copies.{placed-none, placed-turn, placed-all}

@@ -1,4 +1,3 @@
-use Prim.Native.Nat.{◌-◌}
 use borrow.Author.Tests.{lt-ltb, le-ltb}
 use Rattle.engine.specs.Held.{link_of, by_index}
 use Rattle.engine.specs.Arrays.{links_in}

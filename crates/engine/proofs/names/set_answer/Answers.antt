@@ -1,4 +1,3 @@
-use Prim.Native.Nat.{◌-◌}
 use Rattle.message.specs.Build.{type_max}
 use Rattle.engine.specs.Arrays.{answer_place}
 use Rattle.engine.proofs.Copies.{placed-none, placed-turn, placed-all}

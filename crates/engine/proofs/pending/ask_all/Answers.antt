@@ -1,5 +1,4 @@
 use mathlib.Core.Path.{refl}
-use Prim.Native.Nat.{◌-◌}
 use Rattle.engine.specs.Replies.{asked, matched_by, joined_by}
 use Rattle.engine.specs.Passes.{asked_by}
 use Rattle.engine.specs.Arrays.{numbers_width, texts_width, entry_in}

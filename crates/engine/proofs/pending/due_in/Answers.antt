@@ -1,5 +1,4 @@
 use mathlib.Core.List.{[]}
-use Prim.Native.Nat.{◌-◌}
 use Rattle.engine.specs.Arrays.{names_in}
 use Rattle.engine.proofs.TablePasses.{due-start, due-turn, due-over}
 use borrow.Author.Rules.{rules}

@@ -1,5 +1,4 @@
 use mathlib.Core.List.{[]}
-use Prim.Native.Nat.{◌-◌}
 use Rattle.engine.specs.Replies.{served, alone_at, group_at}
 use Rattle.engine.specs.Arrays.{numbers_width, texts_width, entry_in}
 use Rattle.engine.specs.Changes.{PassAll}

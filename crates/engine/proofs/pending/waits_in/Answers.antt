@@ -1,5 +1,4 @@
 use mathlib.Core.List.{[]}
-use Prim.Native.Nat.{◌-◌}
 use Rattle.engine.specs.Arrays.{names_in}
 use Rattle.engine.proofs.TablePasses.{waiting-start, waiting-turn, waiting-over}
 use borrow.Author.Rules.{rules}

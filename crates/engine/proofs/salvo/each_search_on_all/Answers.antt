@@ -1,5 +1,4 @@
 use mathlib.Core.Path.{sym, ◌∙◌}
-use Prim.Native.Nat.{◌-◌}
 use mathlib.Core.List.{[]}
 use Rattle.engine.proofs.TableRuns.{searches-length, search_is, row_room, row-turn, row-end}
 use Rattle.engine.proofs.Sending as sending

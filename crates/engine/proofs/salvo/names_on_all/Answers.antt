@@ -1,5 +1,4 @@
 use mathlib.Core.Path.{sym, ◌∙◌}
-use Prim.Native.Nat.{◌-◌}
 use Rattle.engine.specs.Changes.{blank}
 use Rattle.engine.proofs.NameRows.{names-length, name-is}
 use Rattle.engine.proofs.TableRuns.{row_room, row-turn, row-end}

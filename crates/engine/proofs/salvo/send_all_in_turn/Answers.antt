@@ -1,9 +1,4 @@
-use mathlib.Core.Path.{◌≡◌}
-use mathlib.Core.List.{List}
-use Prim.Native.Nat.{ℕ, ◌-◌, min}
-use lib.ListN.{take}
-use Rattle.engine.specs.Sizes.{addresses_max}
-use Rattle.engine.specs.Records.{Record, flat, all_from}
+use Rattle.engine.specs.Records.{all_from}
 use Rattle.engine.specs.Arrays.{names_in, searches_in}
 use Rattle.engine.proofs.Sending as sending
 use Rattle.engine.proofs.Runs as runs

@@ -1,6 +1,6 @@
 -- The elements from i on have moved. The measure is i.
 use mathlib.Core.Path.{◌≡◌}
-use Prim.Native.Nat.{◌-◌, ◌≤◌}
+use Prim.Native.Nat.{◌≤◌}
 use lib.ListN.{length}
 use Rattle.engine.proofs.Moves as moves
 use Rattle.engine.proofs.shift.numbers_up.Given as goal

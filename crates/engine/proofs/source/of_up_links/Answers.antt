@@ -1,4 +1,3 @@
-use Prim.Native.Nat.{◌-◌}
 use Rattle.engine.specs.Held.{link_of}
 use Rattle.engine.proofs.LinkRows as links
 use Rattle.engine.proofs.UpAddresses as up

@@ -1,6 +1,6 @@
 -- The new address is stored behind those held.
-use mathlib.Core.Path.{◌≡◌, refl, sym, ◌∙◌}
-use lib.ListN.{length, length-map}
+use mathlib.Core.Path.{◌≡◌, refl}
+use lib.ListN.{length}
 use Rattle.engine.proofs.Slots as slots
 use native.Mathlib.Omega.{arith}
 use Rattle.engine.specs.Sizes.{sources_max}

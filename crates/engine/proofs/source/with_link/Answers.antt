@@ -1,6 +1,3 @@
-use mathlib.Core.Path.{sym, ◌∙◌}
-use Prim.Native.Nat.{◌-◌}
-use lib.ListN.{length-map}
 use Rattle.engine.proofs.LinkRows as links
 use borrow.Author.Rules.{rules}
 use native.Mathlib.Omega.{arith}

@@ -1,5 +1,4 @@
 use mathlib.Core.Path.{refl, sym, ◌∙◌}
-use Prim.Native.Nat.{◌-◌}
 use Rattle.engine.proofs.SearchRows as rows
 use Rattle.engine.proofs.Masks as masks
 use borrow.Author.Rules.{rules}

@@ -1,6 +1,4 @@
 -- The length stands first and the type, which fits, behind it.
-use mathlib.Core.Path.{◌∙◌}
-use lib.ListN.{length, length-set}
 use borrow.Author.Rules.{rules}
 use Rattle.engine.proofs.SearchRows.{type_put, put-length}
 use Rattle.engine.proofs.subscription.set_service.Goals as goal

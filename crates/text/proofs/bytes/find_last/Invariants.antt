@@ -1,5 +1,5 @@
 -- `bytes::find_last`: the byte stands nowhere from i on. The measure is i.
-use Prim.Native.Nat.{ℕ, ◌-◌, ◌≤◌, ◌<◌}
+use Prim.Native.Nat.{ℕ, ◌≤◌, ◌<◌}
 use lib.ListN.{length, get_or}
 use mathlib.Core.Path.{◌≡◌}
 use Rattle.text.proofs.bytes.find_last.Given as goal

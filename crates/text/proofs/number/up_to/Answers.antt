@@ -1,6 +1,5 @@
 -- `number::up_to`: a text that starts with a sign, and any other.
 use mathlib.Core.Path.{refl, sym, ◌∙◌}
-use mathlib.Core.Logic.{⊎_elim}
 use borrow.Author.Rules.{rules}
 use native.Mathlib.Omega.{arith}
 use Rattle.text.proofs.Digits as laws

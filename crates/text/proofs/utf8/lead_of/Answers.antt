@@ -1,6 +1,5 @@
 -- `utf8::lead_of`: each arm of the match is a byte, or a range over which the rule is one computed test.
 use mathlib.Core.Path.{◌∙◌}
-use mathlib.Core.Logic.{⊎_elim}
 use borrow.Author.Rules.{rules}
 use native.Mathlib.Omega.{arith}
 use Rattle.text.specs.Utf8.{lead_of, expects}

@@ -7,7 +7,6 @@ use native.Mathlib.Omega.{arith}
 use lib.Dec.{eqb}
 use lib.ListN.{length, take, drop, replicate, length-take, length-drop, length-append, length-replicate}
 use lib.Seq.{take_at}
-use types.Run.{OneOf}
 use Rattle.text.specs.Bytes.{bytes}
 use Rattle.console.specs.Input.{Text, Unheard as TooLong}
 use Rattle.console.specs.declared.command.Command.{Command}
@@ -23,21 +22,32 @@ use Rattle.engine.proofs.Slots.{clamped}
 use Rattle.dialogue.specs.Asking.{Asked, Nothing, Begin, Lend, Of, asked}
 use Rattle.dialogue.specs.Obeying.{Unheard, Begun, Called, Outcome, Obeys}
 use Rattle.dialogue.specs.Printing.{answer_line, news_line}
-use Rattle.dialogue.specs.Subjects.{Among}
 use Rattle.dialogue.specs.Outbox.{mark}
 use Rattle.dialogue.specs.declared.session.Reply.{Reply}
-use Rattle.dialogue.proofs.Commands.{but, never, by_number}
 use Rattle.program.specs.Program.{Session, Before, Running, Given, first_lent, unread, record_lines, stain, printout, gives, reply, command_of, lent_in}
 use Rattle.program.specs.Steps.{session_of, session_in, due, Gives, reply_text, replied, marked, lends}
 use Rattle.program.specs.declared.state.State.{State}
 
 -- no command but `outbox` asks to lend
-abbrev pub lend_lines : List ℕ
-lend_lines = 13 ∷ []
-
-pub lends-not : (k : Command) → Among (but lend_lines) k → (s : List ℕ) (room : ℕ) → lends (asked s room k) ≡ false
-lends-not k i s room =
-    by_number (λ n x. OneOf (but lend_lines) n → lends x ≡ false) (λ i. refl) (λ seed time i. refl) (λ n i. absurd (never 13 lend_lines refl i)) (λ n c h i. refl) s room k i
+pub lends-not : (k : Command) → ((n : ℕ) → k ≡ line.Lend n → ⊥) → (s : List ℕ) (room : ℕ) → lends (asked s room k) ≡ false
+unfolding asked
+lends-not line.Unreadable h s room = refl
+lends-not (line.New seed time) h s room = refl
+lends-not (line.NewLink index flags outcome) h s room = refl
+lends-not (line.DeletedLink index outcome) h s room = refl
+lends-not (line.NewAddress index address) h s room = refl
+lends-not (line.DeletedAddress index address) h s room = refl
+lends-not (line.Subscribe service) h s room = refl
+lends-not (line.Advertise name service location) h s room = refl
+lends-not (line.Deadvertise name) h s room = refl
+lends-not line.Refresh h s room = refl
+lends-not (line.Datagram time sender port receiver text) h s room = refl
+lends-not (line.Timeout time) h s room = refl
+lends-not (line.Reset time) h s room = refl
+lends-not (line.Lend n) h s room = absurd (h n refl)
+lends-not (line.HexDatagram time sender port receiver digits) h s room = refl
+lends-not (line.NewHexAddress index digits) h s room = refl
+lends-not (line.DeletedHexAddress index digits) h s room = refl
 
 -- what is lent in a session
 pub lent-in : (begun : Bool) (lent : ℕ) (e : Engine) {n : ℕ} → n ≡ outbox_max → min (cond begun lent 0) n ≡ lent_in (session_of begun lent e)

@@ -25,5 +25,4 @@ pub returns : goal.returns
 unfolding answer_line
 returns c =
     let a = c.args.a in
-    let known = c.struct_known-1.given in
     (laws.◌⨟◌ c.append_numbers-next.ensures c.append_number.ensures, answer-most a (omega arith) (omega arith) (omega arith) (omega arith) (omega arith) (omega arith) (omega arith) (omega arith) (omega arith))

@@ -35,5 +35,4 @@ pub returns : goal.returns
 unfolding news_line bytes
 returns c =
     let a = c.args.a in
-    let known = c.struct_known-3-1.given in
     (laws.◌⨟◌ c.append-next.ensures (laws.◌⨟◌ c.append_number-next.ensures (laws.◌⨟◌ c.append_number-next-2.ensures c.append_number.ensures)), news_most a (omega arith) (omega arith) (omega arith))

@@ -20,9 +20,6 @@ slice_bounds-new_address-end c = search rules
 pub new_address-requires : goal.new_address-requires
 new_address-requires c = search rules
 
-pub enum_known-command-in-DeletedAddress-1 : goal.enum_known-command-in-DeletedAddress-1
-enum_known-command-in-DeletedAddress-1 c = search rules
-
 pub octets_of-bytes-requires-in-DeletedAddress : goal.octets_of-bytes-requires-in-DeletedAddress
 octets_of-bytes-requires-in-DeletedAddress c = search rules
 
@@ -31,9 +28,6 @@ slice_bounds-deleted_address-end c = search rules
 
 pub deleted_address-requires : goal.deleted_address-requires
 deleted_address-requires c = search rules
-
-pub enum_known-command-in-NewHexAddress-1 : goal.enum_known-command-in-NewHexAddress-1
-enum_known-command-in-NewHexAddress-1 c = search rules
 
 pub no_address-bytes-requires : goal.no_address-bytes-requires
 no_address-bytes-requires c = search rules
@@ -55,9 +49,6 @@ front-octets-requires c = search rules
 
 pub new_address-requires-in-NewHexAddress : goal.new_address-requires-in-NewHexAddress
 new_address-requires-in-NewHexAddress c = search rules
-
-pub enum_known-command-in-DeletedHexAddress-1 : goal.enum_known-command-in-DeletedHexAddress-1
-enum_known-command-in-DeletedHexAddress-1 c = search rules
 
 pub no_address-bytes-requires-in-DeletedHexAddress : goal.no_address-bytes-requires-in-DeletedHexAddress
 no_address-bytes-requires-in-DeletedHexAddress c = search rules

@@ -14,9 +14,6 @@ enum_known-command c = search rules
 pub new_link-requires : goal.new_link-requires
 new_link-requires c = search rules
 
-pub enum_known-command-in-DeletedLink-1 : goal.enum_known-command-in-DeletedLink-1
-enum_known-command-in-DeletedLink-1 c = search rules
-
 pub deleted_link-requires : goal.deleted_link-requires
 deleted_link-requires c = search rules
 

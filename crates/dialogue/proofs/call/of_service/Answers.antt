@@ -20,9 +20,6 @@ part_of-service-requires c = search rules
 pub subscribe-requires : goal.subscribe-requires
 subscribe-requires c = search rules
 
-pub enum_known-command-in-Advertise-1 : goal.enum_known-command-in-Advertise-1
-enum_known-command-in-Advertise-1 c = search rules
-
 pub part_of-requires : goal.part_of-requires
 part_of-requires c = search rules
 
@@ -35,17 +32,11 @@ part_of-requires-in-Advertise-2 c = search rules
 pub advertise-requires : goal.advertise-requires
 advertise-requires c = search rules
 
-pub enum_known-command-in-Deadvertise-1 : goal.enum_known-command-in-Deadvertise-1
-enum_known-command-in-Deadvertise-1 c = search rules
-
 pub part_of-requires-in-Deadvertise : goal.part_of-requires-in-Deadvertise
 part_of-requires-in-Deadvertise c = search rules
 
 pub deadvertise-requires : goal.deadvertise-requires
 deadvertise-requires c = search rules
-
-pub enum_told-1 : goal.enum_told-1
-enum_told-1 c = search rules
 
 pub refresh-requires : goal.refresh-requires
 refresh-requires c = search rules

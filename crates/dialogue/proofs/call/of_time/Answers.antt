@@ -37,9 +37,6 @@ front-text-requires c = search rules
 pub on_data-requires : goal.on_data-requires
 on_data-requires c = search rules
 
-pub enum_known-command-in-HexDatagram-1 : goal.enum_known-command-in-HexDatagram-1
-enum_known-command-in-HexDatagram-1 c = search rules
-
 pub at-sender-requires-in-HexDatagram : goal.at-sender-requires-in-HexDatagram
 at-sender-requires-in-HexDatagram c = search rules
 
@@ -64,14 +61,8 @@ front-text-requires-in-HexDatagram c = search rules
 pub on_data-requires-in-HexDatagram : goal.on_data-requires-in-HexDatagram
 on_data-requires-in-HexDatagram c = search rules
 
-pub enum_known-command-in-Timeout-1 : goal.enum_known-command-in-Timeout-1
-enum_known-command-in-Timeout-1 c = search rules
-
 pub handle_timeout-requires : goal.handle_timeout-requires
 handle_timeout-requires c = search rules
-
-pub enum_known-command-in-Reset-1 : goal.enum_known-command-in-Reset-1
-enum_known-command-in-Reset-1 c = search rules
 
 pub reset_refresh_timer-requires : goal.reset_refresh_timer-requires
 reset_refresh_timer-requires c = search rules

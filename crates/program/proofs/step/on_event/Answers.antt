@@ -10,17 +10,11 @@ enum_known-event c = search rules
 pub with_held-next-requires : goal.with_held-next-requires
 with_held-next-requires c = search rules
 
-pub enum_known-event-in-Line-1 : goal.enum_known-event-in-Line-1
-enum_known-event-in-Line-1 c = search rules
-
 pub front-requires : goal.front-requires
 front-requires c = search rules
 
 pub on_line-requires : goal.on_line-requires
 on_line-requires c = search rules
-
-pub enum_known-event-in-TooLong-1 : goal.enum_known-event-in-TooLong-1
-enum_known-event-in-TooLong-1 c = search rules
 
 pub unheard-requires : goal.unheard-requires
 unheard-requires c = search rules

@@ -191,7 +191,7 @@ pub(crate) fn searched(
     receiver: u32,
 ) -> Asked
     requires { (length head.now ≡ head_places) × NameArrays numbers.old texts.old × (length target.now ≤ type_max) × (time ≤ time_max) }
-    ensures { AskedBy seed (record { target = target.entry.now; mx = mx; sender = sender; receiver = receiver; time = time }) (names_in head.now numbers.old texts.old) (names_in head.now numbers.new texts.new) result.matched result.joined }
+    ensures { AskedBy seed (record { target = target.now; mx = mx; sender = sender; receiver = receiver; time = time }) (names_in head.now numbers.old texts.old) (names_in head.now numbers.new texts.new) result.matched result.joined }
 {
     let due = time + delay_of(seed, mx);
     ask_all(head, numbers, texts, due, target, sender, receiver)

@@ -19,7 +19,7 @@ pub returns-then-time-gt-TIME_MAX : goal.returns-then-time-gt-TIME_MAX
 unfolding refusal_of
 returns-then-time-gt-TIME_MAX c links =
     let a = c.args in
-    lending.refused-answers (engine a.head.now links a.searches.now a.numbers.now a.texts.now) (Datagram a.time a.sender a.receiver a.datagram.now) [] _ 1 (hearing.late-refusal _ _ a.time a.sender a.receiver a.datagram.now c.if-time-gt-TIME_MAX.true) (λ z. omega arith)
+    lending.refused-answers (engine a.head.now links a.searches.now a.numbers.now a.texts.now) (Datagram a.time a.sender a.receiver a.datagram.now) [] _ 1 (hearing.late-refusal _ _ a.time a.sender a.receiver a.datagram.now (omega arith)) (λ z. omega arith)
     (c.refused.ensures links _ _)
 
 pub parse-answer-requires : goal.parse-answer-requires

@@ -1,5 +1,6 @@
 -- `utf8::lead_of`: each arm of the match is a byte, or a range over which the rule is one computed test.
-use mathlib.Core.Path.{◌∙◌}
+use mathlib.Core.Path.{◌≡◌, ◌∙◌, refl}
+use Prim.Native.Nat.{ℕ}
 use borrow.Author.Rules.{rules}
 use native.Mathlib.Omega.{arith}
 use Rattle.text.specs.Utf8.{lead_of, expects}
@@ -73,10 +74,15 @@ pub returns-in-241-to-243 : goal.returns-in-241-to-243
 unfolding leads lead_of
 returns-in-241-to-243 c = c.expects-in-241-to-243.ensures ∙ arm 0xF1 3 (expects 3 0x80 0xBF) tt c.args.b (omega arith) (omega arith)
 
+-- what the last arm hands on, however it is written
+begins_none : {tail low high : ℕ} → tail ≡ 1 → low ≡ 1 → high ≡ 0 → expects tail low high ≡ expects 1 1 0
+begins_none t l h = rw (t, l, h)
+
 pub returns-in_default : goal.returns-in_default
 unfolding leads lead_of
 returns-in_default c =
     c.expects-in_default.ensures
+    ∙ begins_none (omega arith) (omega arith) (omega arith)
     ∙ (elim c.in_default.branch [
       | in_default-via-then-b-lt194 w ↦ arm 0x80 66 (expects 1 1 0) tt c.args.b (omega arith) (omega arith)
       | in_default-via-else-b-lt194+else-b-lt224+else-b-lt237+else-b-lt240+else-b-lt244 w ↦ arm 0xF5 11 (expects 1 1 0) tt c.args.b (omega arith) (omega arith)

@@ -1,6 +1,6 @@
 //! Build script: tells a crate where the unchanged Rust lies, which is $COTTON_SRC or, without it,
-//! ../shared/docs/src beside the repository. The files are read from there and copied nowhere.
-use std::{env, fs, os::unix::fs::symlink, path::Path};
+//! ../shared/docs/src beside the repository. The files are read from there.
+use std::{env, fs, path::Path};
 
 fn main() {
     let manifest = env::var("CARGO_MANIFEST_DIR").unwrap();
@@ -11,13 +11,17 @@ fn main() {
     println!("cargo:rerun-if-env-changed=COTTON_SRC");
     println!("cargo:rerun-if-changed={}", source.display());
     println!("cargo:rustc-env=COTTON_SRC={}", source.display());
-    // udp.rs declares `pub mod error;`, a file that is not there: a link to udp.rs stands beside our shim.
+    // udp.rs declares `pub mod error;`, a file that is not there: a copy of udp.rs stands beside our shim, as a copy too, since `rt ci` takes no link in a checkout.
     let out = env::var("OUT_DIR").unwrap();
-    link(&source.join("cotton-ssdp/src/udp.rs"), &Path::new(&out).join("udp.rs"));
-    link(&Path::new(&manifest).join("src/udp_error.rs"), &Path::new(&out).join("error.rs"));
+    let shim = Path::new(&manifest).join("src/udp_error.rs");
+    println!("cargo:rerun-if-changed={}", shim.display());
+    put(&source.join("cotton-ssdp/src/udp.rs"), &Path::new(&out).join("udp.rs"));
+    if shim.exists() {
+        put(&shim, &Path::new(&out).join("error.rs"));
+    }
 }
 
-fn link(from: &Path, to: &Path) {
+fn put(from: &Path, to: &Path) {
     let _ = fs::remove_file(to);
-    symlink(from, to).unwrap();
+    fs::write(to, fs::read(from).unwrap()).unwrap();
 }

@@ -4,21 +4,24 @@ mod c;
 
 use c::{done, HOSTS};
 use std::collections::BTreeSet;
+use std::hash::{DefaultHasher, Hash, Hasher};
 use std::path::Path;
 use std::process::Command;
 use std::sync::OnceLock;
 
-/// The folder that was installed to, once for all tests. The program is built apart from the build that runs this test, which cargo may
-/// have locked.
+/// The folder that was installed to, once for all tests: outside the checkout, where `rt ci` takes no link. The program is built apart from
+/// the build that runs this test, which cargo may have locked.
 fn installed() -> &'static str {
     static FOLDER: OnceLock<String> = OnceLock::new();
     FOLDER.get_or_init(|| {
-        let folder = concat!(env!("CARGO_TARGET_TMPDIR"), "/installed");
-        let _ = std::fs::remove_dir_all(folder);
+        let mut checkout = DefaultHasher::new();
+        HOSTS.hash(&mut checkout);
+        let folder = std::env::temp_dir().join(format!("kohlsilk-installed-{:x}", checkout.finish()));
+        let _ = std::fs::remove_dir_all(&folder);
         let build = concat!(env!("CARGO_TARGET_TMPDIR"), "/install-build");
         let environment = [("KOHLSILK_LIB", env!("KOHLSILK_FOLDER")), ("CARGO_TARGET_DIR", build)];
-        done(Command::new(format!("{HOSTS}/install")).arg(folder).env_remove("PREFIX").envs(environment));
-        folder.into()
+        done(Command::new(format!("{HOSTS}/install")).arg(&folder).env_remove("PREFIX").envs(environment));
+        folder.to_str().unwrap().into()
     })
 }
 

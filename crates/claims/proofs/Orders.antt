@@ -8,7 +8,7 @@ use lib.Dec.{eqb, ltb}
 use borrow.Author.Tests.{ltb-true, ltb-false, lt-ltb, le-ltb, eqb-true, eqb-false, eq-eqb}
 use Rattle.text.specs.Bytes.{order, equal}
 use Rattle.text.proofs.Comparing.{equal_is, equal-refl}
-use Rattle.text.specs.declared.bytes.Ordering.TheVariants.{Less, Greater}
+use Rattle.std.specs.declared.cmp.Ordering.TheVariants.{Less, Greater}
 use Rattle.engine.specs.Held.{Text, is_less}
 use Rattle.claims.proofs.Ascending.{StrictOrder}
 

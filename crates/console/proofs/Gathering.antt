@@ -22,25 +22,22 @@ use Rattle.console.specs.declared.input.Event.TheVariants.{More}
 -- a test of each byte, of parts
 module _ (f : ℕ → Bool) where
   pub all_append : (s t : List ℕ) → all f s ≡ true → all f t ≡ true → all f (s ++ t) ≡ true
-  unfolding all
   all_append [] t e g = g
   all_append (a ∷ s) t e g = let p = (and-eq-true_iff (f a) (all f s)).0 e in rw p.0 (all_append s t p.1 g)
 
   all_take : (n : ℕ) (s : List ℕ) → all f s ≡ true → all f (take n s) ≡ true
-  unfolding all
   all_take zero s e = refl
   all_take (suc n) [] e = refl
   all_take (suc n) (a ∷ s) e = let p = (and-eq-true_iff (f a) (all f s)).0 e in rw p.0 (all_take n s p.1)
 
   all-at : (s : List ℕ) (i d : ℕ) → all f s ≡ true → i < length s → f (get_or s i d) ≡ true
-  unfolding all
   all-at [] i d e h = absurd (omega arith)
   all-at (a ∷ s) zero d e h = ((and-eq-true_iff (f a) (all f s)).0 e).0
   all-at (a ∷ s) (suc i) d e h = all-at s i d ((and-eq-true_iff (f a) (all f s)).0 e).1 (omega arith)
 
 -- no byte 10 stands before the first
 before-first : (s : List ℕ) → all not_end (take (first_place (headed 10) s) s) ≡ true
-unfolding all first_place
+unfolding first_place
 before-first [] = refl
 before-first (a ∷ s) = go (eqb a 10) refl (before-first s)
   where
@@ -54,14 +51,14 @@ unended s = before-first s
 
 -- the lines of a text without byte 10, and with byte 10 behind it
 pub lines-ended : (s t : List ℕ) → all not_end s ≡ true → lines (s ++ 10 ∷ t) ≡ (s ++ 10 ∷ []) ∷ lines t
-unfolding lines all
+unfolding lines
 lines-ended [] t e = refl
 lines-ended (a ∷ s) t e =
     let p = (and-eq-true_iff (not_end a) (all not_end s)).0 e in
     ap (λ (q : Bool). before q a (lines (s ++ 10 ∷ t))) (not-true (eqb a 10) p.0) ∙ ap (before false a) (lines-ended s t p.1)
 
 pub lines-last : (a : ℕ) (s : List ℕ) → all not_end (a ∷ s) ≡ true → lines (a ∷ s) ≡ (a ∷ s) ∷ []
-unfolding lines all
+unfolding lines
 lines-last a [] e = ap (λ (q : Bool). before q a []) (not-true (eqb a 10) ((and-eq-true_iff (not_end a) true).0 e).0)
 lines-last a (b ∷ s) e =
     let p = (and-eq-true_iff (not_end a) (all not_end (b ∷ s))).0 e in

@@ -115,7 +115,6 @@ module _ (text buffer : List ℕ) (len : ℕ) (chunk after : List ℕ) (r : Even
     (g : Gathers buffer len chunk after r)
     (rest : (t : List ℕ) → Pending t after (len_of r) → hs ≡ input (t ++ joined (onwards r chunk chunks))) where
   at-end : index_of 10 chunk < length chunk → r ≡ ended (length (bare (text ++ up_to chunk))) (suc (index_of 10 chunk)) → heard_in after r ++ hs ≡ input (text ++ (chunk ++ joined chunks))
-  unfolding all
   at-end h e =
       let used = suc (index_of 10 chunk) in
       let n = length (bare (text ++ up_to chunk)) in
@@ -167,5 +166,4 @@ heard_all text p (step buffer len chunk after r chunks hs g run) = at-step text 
 
 -- from its start on, with nothing held in a buffer that has room for the longest line and its end
 pub whole-input : {buffer : List ℕ} {chunks : List (List ℕ)} {hs : List Heard} → line_max + 2 ≤ length buffer → Run buffer 0 chunks hs → hs ≡ input (joined chunks)
-unfolding all
 whole-input {buffer} h run = heard_all [] (record { room = h; unended = refl; held = empty buffer }) run

@@ -1,6 +1,6 @@
 -- The laws of the console, one file a subject.
 pub mod Appending
-pub mod Commands
+pub mod Filling
 pub mod Gathering
 pub mod Hearing
 pub mod InEach
@@ -10,4 +10,3 @@ pub mod InLine
 pub mod Lengths
 pub mod Octets
 pub mod Printing
-pub mod Reading

@@ -1,5 +1,5 @@
 -- Laws of parts of a slice, as the code lends them.
-use mathlib.Core.Path.{◌≡◌, ◌∙◌, ap}
+use mathlib.Core.Path.{◌≡◌}
 use mathlib.Core.List.{List}
 use Prim.Native.Nat.{ℕ, ◌-◌}
 use native.Mathlib.Omega.{arith}
@@ -9,6 +9,3 @@ use lib.Seq.{take_all}
 -- `&s[at..]`
 pub tail : (s : List ℕ) (at : ℕ) → take (length s - at) (drop at s) ≡ drop at s
 tail s at = take_all (length s - at) (drop at s) (omega (arith, length-drop at s))
-
-pub tail-length : (s : List ℕ) (at : ℕ) → length (take (length s - at) (drop at s)) ≡ length s - at
-tail-length s at = ap length (tail s at) ∙ length-drop at s

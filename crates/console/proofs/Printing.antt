@@ -9,7 +9,7 @@ use lib.Dec.{ltb, leb}
 use lib.ListN.{length, get_or, length-append, get_or-append}
 use Rattle.text.specs.Range.{within, every}
 use Rattle.text.specs.Number.{value, digits, more, unsigned, number}
-use Rattle.text.specs.declared.number.Number.TheVariants.{Value}
+use Rattle.std.proofs.Common.{Some}
 use Rattle.console.specs.Decimal.{figures, decimal}
 
 -- digits to spare change nothing
@@ -81,7 +81,7 @@ not-plus a s e q =
     let p = ((and-eq-true_iff (within 48 57 a) (digits s)).0 e).0 in
     omega (arith, leb-true 48 a ((and-eq-true_iff (leb 48 a) (leb a 57)).0 p).0)
 
-read-digits : (max : ℕ) (s : List ℕ) → 0 < length s → digits s ≡ true → value 0 s ≤ max → number max s ≡ Value (value 0 s)
+read-digits : (max : ℕ) (s : List ℕ) → 0 < length s → digits s ≡ true → value 0 s ≤ max → number max s ≡ Some (value 0 s)
 unfolding number unsigned more
 read-digits max [] h e g = absurd (omega arith)
 read-digits max (a ∷ s) h e g = rw (ne_eqb a 43 (not-plus a s e), e, le-leb (value 0 (a ∷ s)) max g)
@@ -96,11 +96,11 @@ some-figures (suc k) n = go (ltb n 10)
     go false = omega (arith, length-append (figures k (n / 10)) ((48 + n % 10) ∷ []))
 
 -- a printed number is read as the number
-pub reads-back : (max n : ℕ) → n ≤ max → number max (decimal n) ≡ Value n
+pub reads-back : (max n : ℕ) → n ≤ max → number max (decimal n) ≡ Some n
 unfolding decimal
 reads-back max n h =
     let v : value 0 (figures n n) ≡ n = figures-value n n (omega arith) in
-    read-digits max (figures n n) (some-figures n n) (figures-digits n n (omega arith)) (omega (arith, v)) ∙ ap Value v
+    read-digits max (figures n n) (some-figures n n) (figures-digits n n (omega arith)) (omega (arith, v)) ∙ ap Some v
 
 -- and has no leading zero
 figures-first : (k n : ℕ) → n ≤ k → 0 < n → get_or (figures k n) 0 0 ≡ 48 → ⊥

@@ -1,30 +1,24 @@
 -- A dotted address, as document 01, 'The session program', reads it and as `trace` prints it: four numbers of 0 to 255 in decimal, no sign, no leading zero.
-use Rattle.std.specs.Prelude.{ℕ, zero, suc, ◌+◌, ◌*◌, cond, ◌&&◌, ◌||◌, List, ◌++◌, eqb, ltb, length, take, drop, get_or}
+use Rattle.std.specs.Prelude.{ℕ, zero, suc, ◌+◌, ◌*◌, cond, ◌&&◌, ◌||◌, Option, None, option_map, List, ◌++◌, eqb, ltb, length, take, drop, get_or}
+use Rattle.std.specs.Option.{option_and_then}
 use Rattle.text.specs.Number.{number, max8}
 use Rattle.text.specs.Bytes.{index_of}
-use Rattle.text.specs.declared.number.Number.{Number}
-use Rattle.text.specs.declared.number.Number.TheVariants.{Value, Invalid}
 use Rattle.console.specs.Decimal.{number_then}
 
--- a number, or 256 if there is none
-abbrev pub or_none : Number → ℕ
-or_none Invalid = 256
-or_none (Value n) = n
-
--- one of the four, 256 if it is none: a number that does not begin with `+`, nor with `0` and go on
-unfoldable pub octet : List ℕ → ℕ
-octet s = cond (eqb (get_or s 0 0) 43 || (eqb (get_or s 0 0) 48 && ltb 1 (length s))) 256 (or_none (number max8 s))
+-- one of the four: a number that does not begin with `+`, nor with `0` and go on
+unfoldable pub octet : List ℕ → Option ℕ
+octet s = cond (eqb (get_or s 0 0) 43 || (eqb (get_or s 0 0) 48 && ltb 1 (length s))) None (number max8 s)
 
 -- n stands for the octets so far; k octets that end in a dot and the last one follow
-unfoldable pub octets : ℕ → ℕ → List ℕ → Number
-octets zero n s = cond (ltb (octet s) 256) (Value (n * 256 + octet s)) Invalid
+unfoldable pub octets : ℕ → ℕ → List ℕ → Option ℕ
+octets zero n s = option_map (λ d. n * 256 + d) (octet s)
 octets (suc k) n s =
-    cond (ltb (index_of 46 s) (length s) && ltb (octet (take (index_of 46 s) s)) 256)
-    (octets k (n * 256 + octet (take (index_of 46 s) s)) (drop (suc (index_of 46 s)) s))
-    Invalid
+    cond (ltb (index_of 46 s) (length s))
+    (option_and_then (λ d. octets k (n * 256 + d) (drop (suc (index_of 46 s)) s)) (octet (take (index_of 46 s) s)))
+    None
 
 -- the number that a dotted address stands for, its first octet the highest
-unfoldable pub address : List ℕ → Number
+unfoldable pub address : List ℕ → Option ℕ
 address s = octets 3 0 s
 
 -- the first four bytes of s as a dotted address, and the byte that ends it

@@ -1,5 +1,6 @@
 -- What is said of each byte of a text, or written for each of its numbers, in a row.
-use Rattle.std.specs.Prelude.{ℕ, Bool, true, ◌&&◌, List, [], ◌∷◌, ◌++◌}
+use Rattle.std.specs.List.{list_all}
+use Rattle.std.specs.Prelude.{ℕ, Bool, List, [], ◌∷◌, ◌++◌}
 
 -- f of each, in a row
 unfoldable pub each : (ℕ → List ℕ) → List ℕ → List ℕ
@@ -7,6 +8,5 @@ each f [] = []
 each f (x ∷ s) = f x ++ each f s
 
 -- f holds of each
-unfoldable pub all : (ℕ → Bool) → List ℕ → Bool
-all f [] = true
-all f (x ∷ s) = f x && all f s
+abbrev pub all : (ℕ → Bool) → List ℕ → Bool
+all f s = list_all f s

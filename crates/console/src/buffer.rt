@@ -1,4 +1,5 @@
-// Text that grows at the front of a lent buffer. What finds no room is left out, so that no call asks for room.
+// Text that grows at the front of a lent buffer. What finds no room is left out, so that no call asks for room. The length goes beside the buffer: of a struct
+// that holds both each contract would have to say besides that it still holds the same buffer.
 ghost use Rattle.console.specs.Buffer.{Appends};
 ghost use Rattle.std.specs.Prelude.{[], ◌∷◌};
 
@@ -18,10 +19,8 @@ pub fn append(buf: &mut [u8], len: usize, text: &[u8]) -> usize
     ensures { Appends text.now buf.old len buf.new result }
 {
     let mut end = len;
-    let mut i = 0;
-    while i < text.len() {
-        end = push(buf, end, text[i]);
-        i += 1;
+    for byte in text {
+        end = push(buf, end, *byte);
     }
     end
 }

@@ -20,10 +20,8 @@ pub fn write_datagram(buf: &mut [u8], text: &[u8]) -> usize
     ensures { Filled (datagram text.now) buf.new result }
 {
     let mut len = 0;
-    let mut i = 0;
-    while i < text.len() {
-        len = append_byte(buf, len, text[i]);
-        i += 1;
+    for byte in text {
+        len = append_byte(buf, len, *byte);
     }
     len
 }

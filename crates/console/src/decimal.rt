@@ -5,11 +5,11 @@ ghost use Rattle.console.specs.Decimal.{decimal, number_then};
 
 use crate::buffer;
 
-// Appends a number's decimal digits: those of its tenth, if it has one, and its last.
+// Appends a number's decimal digits: those of its tenth, if it has one, and its last. (std's Display writes to a `fmt::Write`, which would be a further type here.)
 pub fn append_decimal(buf: &mut [u8], len: usize, n: u64) -> usize
     ensures { Appends (decimal n) buf.old len buf.new result }
 {
-    let last = 48 + (n % 10) as u8;
+    let last = b'0' + (n % 10) as u8;
     if n < 10 {
         return buffer::push(buf, len, last);
     }
@@ -30,10 +30,8 @@ pub fn append_numbers(buf: &mut [u8], len: usize, numbers: &[u64], end: u8) -> u
     ensures { Appends (each (number_then end) numbers.now) buf.old len buf.new result }
 {
     let mut next = len;
-    let mut i = 0;
-    while i < numbers.len() {
-        next = append_number(buf, next, numbers[i], end);
-        i += 1;
+    for n in numbers {
+        next = append_number(buf, next, *n, end);
     }
     next
 }

@@ -1,177 +1,96 @@
 // The fields of a line, parted by tabs, each read as its form: document 01, 'The session program'.
 ghost use Rattle.std.specs.Prelude.{◌≡◌, ◌≤◌, length};
-ghost use Rattle.console.specs.Field.{is_nothing, is_rest, extent, as_u16, as_u32, as_u64, hex_part, datum_of, field_at};
+ghost use Rattle.text.specs.Bytes.{index_of};
+ghost use Rattle.console.specs.Field.{U16, U32, UpTo, Address, Text, Rest, Hex, Reads, ReadsPart};
 
+use crate::part::part_of;
 use crate::{address, hexadecimal};
-use text::number::Number;
 use text::white::Place;
 use text::{bytes, number};
 
-// What a field holds: no field at all; a number of 16 or 32 bits, or one not above a largest; a dotted address; any text without a tab;
-// the rest of the line; hexadecimal of at most so many bytes.
+// The fields of a line that are not read yet: they begin at byte `at`, which is one byte past the line's end if there is none. A field's place says where it
+// starts in the line, so that `at` would stay beside an Option of what is left.
 #[derive(Clone, Copy)]
-pub enum Form {
-    Nothing,
-    U16,
-    U32,
-    Number(u64),
-    Address,
-    Text,
-    Rest,
-    Hex(usize),
+pub struct Fields<'a> {
+    pub line: &'a [u8],
+    pub at: usize,
 }
 
-// What a field was read as. A text is a part of the line.
-#[derive(Clone, Copy)]
-pub enum Datum {
-    Unreadable,
-    Nothing,
-    U16(u16),
-    U32(u32),
-    U64(u64),
-    Part(Place),
-}
-
-// A field as it was read, and where the next one begins: one byte past the line's end if there is none.
-#[derive(Clone, Copy)]
-pub struct Field {
-    pub datum: Datum,
-    pub next: usize,
-}
-
-fn is_nothing(form: Form) -> bool
-    ensures { result ≡ is_nothing form }
-{
-    match form {
-        Form::Nothing => true,
-        Form::U16 => false,
-        Form::U32 => false,
-        Form::Number(_) => false,
-        Form::Address => false,
-        Form::Text => false,
-        Form::Rest => false,
-        Form::Hex(_) => false,
-    }
-}
-
-fn is_rest(form: Form) -> bool
-    ensures { result ≡ is_rest form }
-{
-    match form {
-        Form::Nothing => false,
-        Form::U16 => false,
-        Form::U32 => false,
-        Form::Number(_) => false,
-        Form::Address => false,
-        Form::Text => false,
-        Form::Rest => true,
-        Form::Hex(_) => false,
-    }
-}
-
-// How far a field reaches that begins where `rest` does: to the next tab, or to the line's end.
-fn extent_of(form: Form, rest: &[u8]) -> usize
-    ensures value { result ≡ extent form rest.now }
+// How far a field reaches: to the next tab, or to the line's end.
+pub(crate) fn extent_of(rest: &[u8]) -> usize
+    ensures value { result ≡ index_of 9 rest.now }
     ensures upper_bound { result ≤ length rest.now }
 {
-    if is_rest(form) {
-        return rest.len();
-    }
-    bytes::find(rest, b'\t')
+    bytes::find(rest, b'\t').unwrap_or(rest.len())
 }
 
-fn u16_datum(n: Number) -> Datum
-    ensures { result ≡ as_u16 n }
-{
-    match n {
-        Number::Value(v) => {
-            if v <= 0xFFFF {
-                return Datum::U16(v as u16);
-            }
-            Datum::Unreadable
-        }
-        Number::Invalid => Datum::Unreadable,
+impl<'a> Fields<'a> {
+    // Any text without a tab.
+    pub fn text(&mut self) -> Option<Place>
+        ensures { Reads Text self.old self.new result }
+    {
+        let rest = self.line.get(self.at..)?;
+        let len = extent_of(rest);
+        let start = self.at;
+        self.at += len + 1;
+        Some(Place { start, len })
     }
-}
 
-fn u32_datum(n: Number) -> Datum
-    ensures { result ≡ as_u32 n }
-{
-    match n {
-        Number::Value(v) => {
-            if v <= 0xFFFF_FFFF {
-                return Datum::U32(v as u32);
-            }
-            Datum::Unreadable
-        }
-        Number::Invalid => Datum::Unreadable,
-    }
-}
-
-fn u64_datum(n: Number) -> Datum
-    ensures { result ≡ as_u64 n }
-{
-    match n {
-        Number::Value(v) => Datum::U64(v),
-        Number::Invalid => Datum::Unreadable,
-    }
-}
-
-fn hex_part(max: usize, start: usize, text: &[u8]) -> Datum
-    ensures { result ≡ hex_part max start text.now }
-{
-    if hexadecimal::is_hexadecimal(text) & (text.len() / 2 <= max) {
-        return Datum::Part(Place {
+    // The rest of the line, by a form of its own.
+    pub fn rest(&mut self) -> Option<Place>
+        ensures { Reads Rest self.old self.new result }
+    {
+        let rest = self.line.get(self.at..)?;
+        let start = self.at;
+        self.at += rest.len() + 1;
+        Some(Place {
             start,
-            len: text.len(),
-        });
+            len: rest.len(),
+        })
     }
-    Datum::Unreadable
-}
 
-// A field that begins at byte `start` of the line, read as its form.
-fn datum_of(form: Form, start: usize, text: &[u8]) -> Datum
-    ensures { result ≡ datum_of form start text.now }
-{
-    match form {
-        Form::Nothing => Datum::Nothing,
-        Form::U16 => u16_datum(number::u16_of(text)),
-        Form::U32 => u32_datum(number::u32_of(text)),
-        Form::Number(max) => u64_datum(number::up_to(text, max)),
-        Form::Address => u32_datum(address::address_of(text)),
-        Form::Text => Datum::Part(Place {
-            start,
-            len: text.len(),
-        }),
-        Form::Rest => Datum::Part(Place {
-            start,
-            len: text.len(),
-        }),
-        Form::Hex(max) => hex_part(max, start, text),
+    // The text itself.
+    fn part(&mut self) -> Option<&'a [u8]>
+        ensures { ReadsPart self.old self.new result }
+    {
+        let text = self.text()?;
+        Some(part_of(self.line, text))
     }
-}
 
-// The field that begins at byte `at` of the line.
-pub fn field_at(line: &[u8], at: usize, form: Form) -> Field
-    ensures { result ≡ field_at line.now at form }
-{
-    if is_nothing(form) {
-        return Field {
-            datum: Datum::Nothing,
-            next: at,
-        };
+    // A number that is not above a largest.
+    pub fn up_to(&mut self, max: u64) -> Option<u64>
+        ensures { Reads (UpTo max) self.old self.new result }
+    {
+        number::up_to(self.part()?, max)
     }
-    if line.len() < at {
-        return Field {
-            datum: Datum::Unreadable,
-            next: at,
-        };
+
+    // A number of 16 bits, and one of 32. Each has a form of its own, which its clause names.
+    pub fn u16(&mut self) -> Option<u16>
+        ensures { Reads U16 self.old self.new result }
+    {
+        number::parse::<u16>(self.part()?)
     }
-    let rest = &line[at..];
-    let len = extent_of(form, rest);
-    let datum = datum_of(form, at, &rest[..len]);
-    Field {
-        datum,
-        next: at + len + 1,
+
+    pub fn u32(&mut self) -> Option<u32>
+        ensures { Reads U32 self.old self.new result }
+    {
+        number::parse::<u32>(self.part()?)
+    }
+
+    // A dotted address.
+    pub fn address(&mut self) -> Option<u32>
+        ensures { Reads Address self.old self.new result }
+    {
+        address::address_of(self.part()?)
+    }
+
+    // Hexadecimal of at most so many bytes.
+    pub fn hex(&mut self, max: usize) -> Option<Place>
+        ensures { Reads (Hex max) self.old self.new result }
+    {
+        let digits = self.text()?;
+        let text = part_of(self.line, digits);
+        let fits = hexadecimal::is_hexadecimal(text) & (text.len() / 2 <= max);
+        fits.then_some(digits)
     }
 }

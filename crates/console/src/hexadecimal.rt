@@ -1,16 +1,17 @@
 // Bytes in hexadecimal, as `trace` reads and prints them.
 ghost use Rattle.std.specs.Prelude.{◌≡◌, ◌<◌};
 ghost use Rattle.console.specs.Buffer.{Appends, Filled};
+ghost use Rattle.console.specs.Each.{all};
 ghost use Rattle.console.specs.Hexadecimal.{hex_digit, hex_byte, hex_text, is_hex_digit, nibble, hexadecimal, unhexed};
 
 use crate::buffer;
 
-// The digit of a number below 16.
+// The digit of a number below 16. `char::from_digit` would have an arm that never runs, and answer a char.
 fn digit_of(n: u8) -> u8
     requires { n < 16 }
     ensures { result ≡ hex_digit n }
 {
-    if n < 10 { 48 + n } else { 87 + n }
+    if n < 10 { b'0' + n } else { b'a' + (n - 10) }
 }
 
 // Appends a byte's two digits.
@@ -26,10 +27,8 @@ pub fn append_hex(buf: &mut [u8], len: usize, text: &[u8]) -> usize
     ensures { Appends (hex_text text.now) buf.old len buf.new result }
 {
     let mut end = len;
-    let mut i = 0;
-    while i < text.len() {
-        end = append_hex_byte(buf, end, text[i]);
-        i += 1;
+    for byte in text {
+        end = append_hex_byte(buf, end, *byte);
     }
     end
 }
@@ -37,41 +36,30 @@ pub fn append_hex(buf: &mut [u8], len: usize, text: &[u8]) -> usize
 fn is_hex_digit(b: u8) -> bool
     ensures { result ≡ is_hex_digit b }
 {
-    ((48 <= b) & (b <= 57)) | ((65 <= b) & (b <= 70)) | ((97 <= b) & (b <= 102))
+    b.is_ascii_hexdigit()
+}
+
+fn has_only_digits(text: &[u8]) -> bool
+    ensures { result ≡ all is_hex_digit text.now }
+{
+    text.iter().all(|b| is_hex_digit(*b))
 }
 
 // Whether a text is bytes in hexadecimal.
+#[tactic(auto, unfolding(crate::specs::Hexadecimal::hexadecimal))]
 pub fn is_hexadecimal(text: &[u8]) -> bool
     ensures { result ≡ hexadecimal text.now }
 {
-    if text.len() % 2 != 0 {
-        return false;
-    }
-    let mut i = 0;
-    while i < text.len() {
-        if !is_hex_digit(text[i]) {
-            return false;
-        }
-        i += 1;
-    }
-    true
+    (text.len() % 2 == 0) & has_only_digits(text)
 }
 
-// The number that a digit stands for; 0 for any other byte.
+// The number that a digit stands for; 0 for any other byte, as the definition has it.
+#[tactic(auto, unfolding(crate::specs::Hexadecimal::nibble))]
 fn nibble_of(b: u8) -> u8
     ensures value { result ≡ nibble b }
     ensures upper_bound { result < 16 }
 {
-    if (48 <= b) & (b <= 57) {
-        return b - 48;
-    }
-    if (65 <= b) & (b <= 70) {
-        return b - 55;
-    }
-    if (97 <= b) & (b <= 102) {
-        return b - 87;
-    }
-    0
+    char::from(b).to_digit(16).unwrap_or(0) as u8
 }
 
 // Writes the bytes that the digits stand for to the front of `buf`, and answers how many they are.
@@ -79,11 +67,9 @@ pub fn write_unhexed(buf: &mut [u8], text: &[u8]) -> usize
     ensures { Filled (unhexed text.now) buf.new result }
 {
     let mut len = 0;
-    let mut i = 0;
-    while i < text.len() / 2 {
-        let byte = 16 * nibble_of(text[2 * i]) + nibble_of(text[2 * i + 1]);
-        len = buffer::push(buf, len, byte);
-        i += 1;
+    let (pairs, _) = text.as_chunks::<2>();
+    for [high, low] in pairs {
+        len = buffer::push(buf, len, 16 * nibble_of(*high) + nibble_of(*low));
     }
     len
 }

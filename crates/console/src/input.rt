@@ -3,7 +3,7 @@
 ghost use Rattle.std.specs.Prelude.{◌≡◌, List, ℕ, take};
 ghost use Rattle.console.specs.Input.{event_in, Gathers, Pending, finished};
 
-use crate::buffer;
+use crate::{buffer, part};
 use text::{bytes, lines};
 
 // The longest line that is read.
@@ -36,20 +36,16 @@ fn event_of(front: &[u8], used: usize) -> Event
 fn event_in(buf: &[u8], len: usize, used: usize) -> Event
     ensures { result ≡ event_in (take len buf.now) used }
 {
-    if buf.len() < len {
-        return event_of(buf, used);
-    }
-    event_of(&buf[..len], used)
+    event_of(part::front(buf, len), used)
 }
 
-// Takes in a chunk behind the `len` bytes of a line that are held.
+// Takes in a chunk behind the `len` bytes of a line that are held (buffer.rt says why a length goes beside a buffer).
 pub fn gather(buf: &mut [u8], len: usize, chunk: &[u8]) -> Event
     ensures { Gathers buf.old len chunk.now buf.new result }
 {
-    let end = bytes::find(chunk, 10);
-    if chunk.len() <= end {
+    let Some(end) = bytes::find(chunk, b'\n') else {
         return Event::More(buffer::append(buf, len, chunk));
-    }
+    };
     let used = end + 1;
     let held = buffer::append(buf, len, &chunk[..used]);
     event_in(buf, held, used)

@@ -1,5 +1,4 @@
 -- Laws that the proofs of the dialogue share.
 pub mod Calling
-pub mod Commands
 pub mod Lengths
 pub mod Outbox

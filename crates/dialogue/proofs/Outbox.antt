@@ -1,18 +1,17 @@
 -- Laws of records in the outbox as `trace` reads them.
-use mathlib.Core.Path.{◌≡◌, refl, sym, ◌∙◌, ap}
-use mathlib.Core.List.{List, [], ◌++◌, append-nil}
+use mathlib.Core.Path.{◌≡◌, ◌∙◌, ap}
+use mathlib.Core.List.{List, []}
 use mathlib.Core.Bool.{Bool, true, ◌&&◌}
-use Prim.Native.Nat.{ℕ, suc, ◌+◌, ◌*◌, ◌-◌, ◌/◌, ◌≤◌, ◌<◌}
+use Prim.Native.Nat.{ℕ, ◌+◌, ◌*◌, ◌-◌, ◌/◌, ◌≤◌, ◌<◌}
 use native.Mathlib.Omega.{arith}
-use native.Mathlib.Numerals.{add-one}
 use borrow.Author.Tests.{lt-ltb, le-ltb}
 use lib.Dec.{eqb}
-use lib.ListN.{length, get_or, take, drop, replicate, drop_of_length-le, length-drop}
+use lib.ListN.{length, get_or, take, drop, length-drop}
 use lib.Seq.{take_all}
 use Rattle.console.specs.Each.{all}
 use Rattle.engine.specs.Sizes.{record_size}
 use Rattle.dialogue.specs.Printing.{number_at}
-use Rattle.dialogue.specs.Outbox.{record_at, padded, all_padded, clean, mark}
+use Rattle.dialogue.specs.Outbox.{record_at, all_padded, clean, mark}
 
 -- two bytes of what follows byte `at`
 pub number-at : {a b : ℕ} (at : ℕ) {rest : List ℕ} (s : List ℕ) → rest ≡ drop at s → a ≡ get_or rest 0 0 → b ≡ get_or rest 1 0 → 256 * a + b ≡ number_at at s
@@ -30,28 +29,6 @@ unfolding record_at
 whole-record k outbox h =
     let n : record_size ≡ record_size * k + record_size - record_size * k = omega arith in
     rw (lt-ltb k (length outbox / record_size) h) (ap (λ (x : ℕ). take x (drop (record_size * k) outbox)) n)
-
--- one record more
-padded-suc : {b p : Bool} (k : ℕ) (outbox : List ℕ) → b ≡ all_padded k outbox → p ≡ padded (record_at k outbox) → b && p ≡ all_padded (suc k) outbox
-unfolding all_padded
-padded-suc {b} {p} k outbox q r = ap (λ (x : Bool). x && p) q ∙ ap (λ (x : Bool). all_padded k outbox && x) r
-
-pub padded-more : {b p : Bool} (k : ℕ) {s : List ℕ} (outbox : List ℕ) → b ≡ all_padded k outbox → s ≡ record_at k outbox → p ≡ padded s → b && p ≡ all_padded (k + 1) outbox
-padded-more k outbox q e r = padded-suc k outbox q (r ∙ ap padded e) ∙ ap (λ (x : ℕ). all_padded x outbox) (sym (add-one k))
-
--- every byte is marked
-pub marked : {after : List ℕ} (i : ℕ) (outbox : List ℕ) → after ≡ replicate i mark ++ drop i outbox → (i ≤ length outbox) × (length outbox ≤ i) → after ≡ replicate (length outbox) mark
-marked i outbox p (h, g) =
-    let n : i ≡ length outbox = omega arith in
-    p ∙ ap (λ (l : List ℕ). replicate i mark ++ l) (drop_of_length-le outbox g) ∙ append-nil (replicate i mark) ∙ ap (λ (k : ℕ). replicate k mark) n
-
--- no record, and all of them
-pub padded-none : (outbox : List ℕ) → true ≡ all_padded 0 outbox
-unfolding all_padded
-padded-none outbox = refl
-
-pub padded-all : {b : Bool} (k n : ℕ) (outbox : List ℕ) → k ≡ n → b ≡ all_padded k outbox → b ≡ all_padded n outbox
-padded-all k n outbox e p = p ∙ ap (λ (x : ℕ). all_padded x outbox) e
 
 -- more records than there is room for, and others
 pub clean-over : (n : ℕ) (outbox : List ℕ) → length outbox / record_size < n → true ≡ clean n outbox

@@ -1,5 +1,5 @@
 -- What a line does to an engine in its lent arrays (document 01, 'The session program'): 'a `new` after an accepted one, or any other line before an accepted `new` prints `?`'.
-use Rattle.std.specs.Prelude.{ℕ, ◌≡◌, Bool, true, false, List, eqb}
+use Rattle.std.specs.Prelude.{ℕ, ◌≡◌, Bool, true, false, Some, None, List, eqb}
 use Rattle.engine.specs.Calls.{Call}
 use Rattle.engine.specs.Arrays.{Engine}
 use Rattle.engine.specs.Promises.{answered, Answers, Begins}
@@ -11,26 +11,22 @@ use Rattle.dialogue.specs.declared.session.Reply.{Reply}
 pub record Unheard (begun : Bool) (e : Engine) (outbox outbox' : List ℕ) (e' : Engine) (r : Reply) : Type 0 where
   pub engine : e' ≡ e
   pub still : r.begun ≡ begun
-  pub heard : r.heard ≡ false
+  pub unheard : r.answer ≡ None
   pub kept : outbox' ≡ outbox
 
 -- the engine begins where `new` is accepted
 pub record Begun (seed time : ℕ) (outbox outbox' : List ℕ) (e' : Engine) (r : Reply) : Type 0 where
-  pub begins : Begins seed time (answered e' r.answer)
-  pub begun : r.begun ≡ eqb r.answer.refusal 0
-  pub heard : r.heard ≡ true
+  pub answer : Answer
+  pub heard : r.answer ≡ Some answer
+  pub begins : Begins seed time (answered e' answer)
+  pub begun : r.begun ≡ eqb answer.refusal 0
   pub kept : outbox' ≡ outbox
 
 pub record Called (e : Engine) (c : Call) (outbox outbox' : List ℕ) (e' : Engine) (r : Reply) : Type 0 where
-  pub answers : Answers e c outbox outbox' (answered e' r.answer)
+  pub answer : Answer
+  pub heard : r.answer ≡ Some answer
+  pub answers : Answers e c outbox outbox' (answered e' answer)
   pub begun : r.begun ≡ true
-  pub heard : r.heard ≡ true
-
--- the line asks a call, and this is its answer
-pub record Answered (x : Asked) (e : Engine) (outbox outbox' : List ℕ) (e' : Engine) (a : Answer) : Type 0 where
-  pub call : Call
-  pub asks : x ≡ Of call
-  pub answers : Answers e call outbox outbox' (answered e' a)
 
 -- whether an engine has begun, and what the line asks; what is lent is no matter of the engine
 abbrev pub Outcome : Bool → Asked → Engine → List ℕ → List ℕ → Engine → Reply → Type 0

@@ -1,5 +1,6 @@
 -- What `trace` sees of the outbox: every byte is marked before a call, and a call leaves the marks behind its last record.
-use Rattle.std.specs.Prelude.{ℕ, zero, suc, ◌+◌, ◌*◌, ◌/◌, Bool, true, cond, ◌&&◌, ◌||◌, List, [], eqb, ltb, length, take, drop}
+use Rattle.std.specs.Prelude.{ℕ, ◌+◌, ◌*◌, ◌/◌, Bool, cond, ◌&&◌, ◌||◌, List, [], eqb, ltb, length, take, drop}
+use Rattle.std.specs.List.{list_all, range_with_len}
 use Rattle.console.specs.Each.{all}
 use Rattle.engine.specs.Sizes.{record_size, head_size}
 use Rattle.dialogue.specs.Printing.{number_at}
@@ -15,9 +16,9 @@ record_at k outbox = cond (ltb k (length outbox / record_size)) (take record_siz
 unfoldable pub padded : List ℕ → Bool
 padded s = all (eqb 0) (drop (head_size + number_at 10 s) s)
 
-unfoldable pub all_padded : ℕ → List ℕ → Bool
-all_padded zero outbox = true
-all_padded (suc k) outbox = all_padded k outbox && padded (record_at k outbox)
+-- the first n records are
+abbrev pub all_padded : ℕ → List ℕ → Bool
+all_padded n outbox = list_all (λ k. padded (record_at k outbox)) (range_with_len 0 n)
 
 -- a call that wrote n records left the rest marked, and each record is padded; more records than there is room for show nothing
 unfoldable pub clean : ℕ → List ℕ → Bool

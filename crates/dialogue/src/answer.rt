@@ -1,4 +1,5 @@
-// What the programs print of an answer: document 01, 'The session program'.
+// What the programs print of an answer: document 01, 'The session program'. It is written to the caller's buffer, as there is no heap, so a function takes and
+// answers how many of its bytes are used.
 ghost use Rattle.std.specs.Prelude.{◌≤◌, length};
 ghost use Rattle.console.specs.Buffer.{Appends};
 ghost use Rattle.dialogue.specs.Printing.{answer_line, news_line};
@@ -11,7 +12,7 @@ pub fn append_answer(buf: &mut [u8], len: usize, a: Answer) -> usize
     ensures { Appends (answer_line a) buf.old len buf.new result × (length (answer_line a) ≤ 189) }
 {
     let numbers = [
-        a.refusal as u64,
+        u64::from(a.refusal),
         a.records as u64,
         a.matched as u64,
         a.joined as u64,
@@ -29,7 +30,7 @@ pub fn append_news(buf: &mut [u8], len: usize, a: Answer) -> usize
     ensures { Appends (news_line a) buf.old len buf.new result × (length (news_line a) ≤ 35) }
 {
     let next = buffer::append(buf, len, b"A ");
-    let next = decimal::append_number(buf, next, a.mask as u64, b' ');
-    let next = decimal::append_number(buf, next, a.told as u64, b' ');
-    decimal::append_number(buf, next, a.leave as u64, b'\n')
+    let next = decimal::append_number(buf, next, u64::from(a.mask), b' ');
+    let next = decimal::append_number(buf, next, u64::from(a.told), b' ');
+    decimal::append_number(buf, next, u64::from(a.leave), b'\n')
 }

@@ -1,205 +1,146 @@
-// The call that a line asks for, by what the line is about. Each function is given the commands of its subject alone, so that its last arm is never taken.
-ghost use Rattle.std.specs.Prelude.{◌≡◌, List, ℕ, length};
-ghost use Rattle.engine.specs.Arrays.{engine};
+// The call that a line asks for.
+ghost use Rattle.std.specs.Prelude.{◌≡◌, true, [], Some, length, take};
+ghost use Rattle.console.specs.Datagram.{datagram};
+ghost use Rattle.console.specs.Hexadecimal.{unhexed};
+ghost use Rattle.engine.specs.Owned.{engine_in};
 ghost use Rattle.engine.specs.Layout.{big_endian4};
-ghost use Rattle.dialogue.specs.Asking.{asked, datagram_max, address_max};
-ghost use Rattle.dialogue.specs.Obeying.{Answered};
-ghost use Rattle.dialogue.specs.Subjects.{Among, link_lines, address_lines, service_lines, time_lines};
+ghost use Rattle.engine.specs.Calls.{NewAddress, DeletedAddress, Advertise, Datagram};
+ghost use Rattle.engine.specs.Promises.{answered, Answers};
+ghost use Rattle.dialogue.specs.Asking.{asked, part_of, datagram_max, address_max};
+ghost use Rattle.dialogue.specs.Obeying.{Obeys};
 
 use console::command::Command;
 use console::part::part_of;
 use console::{datagram, hexadecimal, part};
 use engine::advertisement::Endpoint;
 use engine::answer::Answer;
-use engine::calls;
-use engine::sizes::{Head, Links, Numbers, Searches, Texts};
+use engine::arrays::Arrays;
+use text::white::Place;
 
-// The answer where no call is made.
-pub(crate) fn no_answer() -> Answer {
-    Answer {
-        refusal: 0,
-        records: 0,
-        matched: 0,
-        joined: 0,
-        alone: 0,
-        group: 0,
-        dropped: 0,
-        waiting: 0,
-        poll: 0,
-        mask: 0,
-        told: 0,
-        leave: 0,
-    }
-}
+// The most bytes of an address in hexadecimal, and of the datagram of a line: each of its bytes may stand for two.
+const ADDRESS_MAX: usize = 32;
 
-// `link` and `dellink`: a link is there or gone.
-pub(crate) fn of_link(
-    head: &mut Head,
-    links: &mut Links,
-    searches: &Searches,
-    numbers: &Numbers,
-    texts: &Texts,
-    command: Command,
-    outbox: &mut [u8],
-) -> Answer
-    requires { Among link_lines command }
-    ensures { (line : List ℕ) → Answered (asked line (length outbox.old) command) (engine head.old links.old searches.now numbers.now texts.now) outbox.old outbox.new (engine head.new links.new searches.now numbers.now texts.now) result }
-{
-    match command {
-        Command::NewLink(index, flags, outcome) => calls::new_link(
-            head, links, searches, numbers, texts, index, flags, outcome, outbox,
-        ),
-        Command::DeletedLink(index, outcome) => {
-            calls::deleted_link(head, links, numbers, index, outcome)
-        }
-        _ => no_answer(),
-    }
-}
-
-// Room for the longest address in hexadecimal.
-fn no_address() -> [u8; 32]
-    ensures { length result ≡ address_max }
-{
-    [0; 32]
-}
+const DATAGRAM_MAX: usize = 8192;
 
 // The four bytes of an address, the highest first.
 fn octets_of(address: u32) -> [u8; 4]
     ensures { result ≡ big_endian4 address }
 {
-    [
-        (address / 16777216 % 256) as u8,
-        (address / 65536 % 256) as u8,
-        (address / 256 % 256) as u8,
-        (address % 256) as u8,
-    ]
+    address.to_be_bytes()
 }
 
-// `addr`, `deladdr`, `hexaddr` and `hexdeladdr`: a link has an address, or has it no more.
-pub(crate) fn of_address(
-    head: &mut Head,
-    links: &mut Links,
-    searches: &Searches,
-    numbers: &Numbers,
-    texts: &Texts,
+// `addr` and `deladdr`: the address is these four bytes.
+fn new_address(arrays: &mut Arrays, index: u32, address: u32, outbox: &mut [u8]) -> Answer
+    ensures { Answers (engine_in arrays.old) (NewAddress index (big_endian4 address) (length outbox.old)) outbox.old outbox.new (answered (engine_in arrays.new) result) }
+{
+    arrays.new_address(index, &octets_of(address), outbox)
+}
+
+fn deleted_address(arrays: &mut Arrays, index: u32, address: u32) -> Answer
+    ensures { Answers (engine_in arrays.old) (DeletedAddress index (big_endian4 address)) [] [] (answered (engine_in arrays.new) result) }
+{
+    arrays.deleted_address(index, &octets_of(address))
+}
+
+// `hexaddr` and `hexdeladdr`: the address is what the digits stand for. Each has the buffer for it, which one function for both could hand out only with a
+// length beside it.
+fn new_hex_address(arrays: &mut Arrays, index: u32, digits: &[u8], outbox: &mut [u8]) -> Answer
+    ensures { Answers (engine_in arrays.old) (NewAddress index (take address_max (unhexed digits.now)) (length outbox.old)) outbox.old outbox.new (answered (engine_in arrays.new) result) }
+{
+    let mut octets = [0; ADDRESS_MAX];
+    let n = hexadecimal::write_unhexed(&mut octets, digits);
+    arrays.new_address(index, part::front(&octets, n), outbox)
+}
+
+fn deleted_hex_address(arrays: &mut Arrays, index: u32, digits: &[u8]) -> Answer
+    ensures { Answers (engine_in arrays.old) (DeletedAddress index (take address_max (unhexed digits.now))) [] [] (answered (engine_in arrays.new) result) }
+{
+    let mut octets = [0; ADDRESS_MAX];
+    let n = hexadecimal::write_unhexed(&mut octets, digits);
+    arrays.deleted_address(index, part::front(&octets, n))
+}
+
+// `advertise`: each text is a part of the line.
+fn advertise(
+    arrays: &mut Arrays,
+    line: &[u8],
+    name: Place,
+    service: Place,
+    location: Place,
+    outbox: &mut [u8],
+) -> Answer
+    ensures { Answers (engine_in arrays.old) (Advertise (part_of line.now name) (part_of line.now service) (part_of line.now location) (length outbox.old)) outbox.old outbox.new (answered (engine_in arrays.new) result) }
+{
+    arrays.advertise(
+        part_of(line, name),
+        part_of(line, service),
+        part_of(line, location),
+        outbox,
+    )
+}
+
+// `data` and `hexdata`: the datagram is what the text or the digits stand for. One function for both would take the reading as a closure, whose clause is longer
+// than the second function.
+fn on_text(arrays: &mut Arrays, time: u64, sender: Endpoint, receiver: u32, text: &[u8]) -> Answer
+    ensures { Answers (engine_in arrays.old) (Datagram time sender receiver (take datagram_max (datagram text.now))) [] [] (answered (engine_in arrays.new) result) }
+{
+    let mut bytes = [0; DATAGRAM_MAX];
+    let n = datagram::write_datagram(&mut bytes, text);
+    arrays.on_data(time, sender, receiver, part::front(&bytes, n))
+}
+
+fn on_hexadecimal(
+    arrays: &mut Arrays,
+    time: u64,
+    sender: Endpoint,
+    receiver: u32,
+    digits: &[u8],
+) -> Answer
+    ensures { Answers (engine_in arrays.old) (Datagram time sender receiver (take datagram_max (unhexed digits.now))) [] [] (answered (engine_in arrays.new) result) }
+{
+    let mut bytes = [0; DATAGRAM_MAX];
+    let n = hexadecimal::write_unhexed(&mut bytes, digits);
+    arrays.on_data(time, sender, receiver, part::front(&bytes, n))
+}
+
+// The answer to the call that a command asks for, if it asks for one.
+#[tactic(auto, using(crate::proofs::Calling::called, crate::proofs::Calling::called_alone), unfolding(crate::specs::Asking::asked))]
+pub(crate) fn answer_to(
+    arrays: &mut Arrays,
     line: &[u8],
     command: Command,
     outbox: &mut [u8],
-) -> Answer
-    requires { Among address_lines command }
-    ensures { Answered (asked line.now (length outbox.old) command) (engine head.old links.old searches.now numbers.now texts.now) outbox.old outbox.new (engine head.new links.new searches.now numbers.now texts.now) result }
+) -> Option<Answer>
+    ensures { Obeys true (asked line.now (length outbox.old) (Some command)) (engine_in arrays.old) outbox.old outbox.new (engine_in arrays.new) (record { begun = true; answer = result }) }
 {
-    match command {
-        Command::NewAddress(index, address) => {
-            let bytes = octets_of(address);
-            calls::new_address(head, links, searches, numbers, texts, index, &bytes, outbox)
-        }
-        Command::DeletedAddress(index, address) => {
-            let bytes = octets_of(address);
-            calls::deleted_address(head, links, numbers, index, &bytes)
-        }
+    let answer = match command {
+        Command::New(_, _) | Command::Lend(_) => return None,
+        Command::NewLink(index, flags, outcome) => arrays.new_link(index, flags, outcome, outbox),
+        Command::DeletedLink(index, outcome) => arrays.deleted_link(index, outcome),
+        Command::NewAddress(index, address) => new_address(arrays, index, address, outbox),
+        Command::DeletedAddress(index, address) => deleted_address(arrays, index, address),
         Command::NewHexAddress(index, digits) => {
-            let mut bytes = no_address();
-            let n = hexadecimal::write_unhexed(&mut bytes, part_of(line, digits));
-            let octets = part::front(&bytes, n);
-            calls::new_address(head, links, searches, numbers, texts, index, octets, outbox)
+            new_hex_address(arrays, index, part_of(line, digits), outbox)
         }
         Command::DeletedHexAddress(index, digits) => {
-            let mut bytes = no_address();
-            let n = hexadecimal::write_unhexed(&mut bytes, part_of(line, digits));
-            calls::deleted_address(head, links, numbers, index, part::front(&bytes, n))
+            deleted_hex_address(arrays, index, part_of(line, digits))
         }
-        _ => no_answer(),
-    }
-}
-
-// `subscribe`, `advertise`, `deadvertise` and `refresh`: what is sought and offered.
-pub(crate) fn of_service(
-    head: &mut Head,
-    links: &Links,
-    searches: &mut Searches,
-    numbers: &mut Numbers,
-    texts: &mut Texts,
-    line: &[u8],
-    command: Command,
-    outbox: &mut [u8],
-) -> Answer
-    requires { Among service_lines command }
-    ensures { Answered (asked line.now (length outbox.old) command) (engine head.old links.now searches.old numbers.old texts.old) outbox.old outbox.new (engine head.new links.now searches.new numbers.new texts.new) result }
-{
-    match command {
-        Command::Subscribe(service) => {
-            let service = part_of(line, service);
-            calls::subscribe(head, links, searches, numbers, service, outbox)
+        Command::Subscribe(service) => arrays.subscribe(part_of(line, service), outbox),
+        Command::Advertise(name, service, location) => {
+            advertise(arrays, line, name, service, location, outbox)
         }
-        Command::Advertise(name, service, location) => calls::advertise(
-            head,
-            links,
-            numbers,
-            texts,
-            part_of(line, name),
-            part_of(line, service),
-            part_of(line, location),
-            outbox,
-        ),
-        Command::Deadvertise(name) => {
-            calls::deadvertise(head, links, numbers, texts, part_of(line, name), outbox)
+        Command::Deadvertise(name) => arrays.deadvertise(part_of(line, name), outbox),
+        Command::Refresh => arrays.refresh(outbox),
+        Command::Datagram(time, address, port, receiver, text) => {
+            let sender = Endpoint { address, port };
+            on_text(arrays, time, sender, receiver, part_of(line, text))
         }
-        Command::Refresh => calls::refresh(head, links, searches, numbers, texts, outbox),
-        _ => no_answer(),
-    }
-}
-
-// Room for the longest datagram of a line: each of its bytes may stand for two.
-fn no_datagram() -> [u8; 8192]
-    ensures { length result ≡ datagram_max }
-{
-    [0; 8192]
-}
-
-// Where a datagram came from.
-fn at(address: u32, port: u16) -> Endpoint
-    ensures { result ≡ record { address = address; port = port } }
-{
-    Endpoint {
-        address: address,
-        port: port,
-    }
-}
-
-// `data`, `hexdata`, `timeout` and `reset`: what comes at a time.
-pub(crate) fn of_time(
-    head: &mut Head,
-    links: &Links,
-    searches: &Searches,
-    numbers: &mut Numbers,
-    texts: &mut Texts,
-    line: &[u8],
-    command: Command,
-    outbox: &mut [u8],
-) -> Answer
-    requires { Among time_lines command }
-    ensures { Answered (asked line.now (length outbox.old) command) (engine head.old links.now searches.now numbers.old texts.old) outbox.old outbox.new (engine head.new links.now searches.now numbers.new texts.new) result }
-{
-    match command {
-        Command::Datagram(time, sender, port, receiver, text) => {
-            let sender = at(sender, port);
-            let mut bytes = no_datagram();
-            let n = datagram::write_datagram(&mut bytes, part_of(line, text));
-            let text = part::front(&bytes, n);
-            calls::on_data(head, searches, numbers, texts, time, sender, receiver, text)
+        Command::HexDatagram(time, address, port, receiver, digits) => {
+            let sender = Endpoint { address, port };
+            on_hexadecimal(arrays, time, sender, receiver, part_of(line, digits))
         }
-        Command::HexDatagram(time, sender, port, receiver, digits) => {
-            let sender = at(sender, port);
-            let mut bytes = no_datagram();
-            let n = hexadecimal::write_unhexed(&mut bytes, part_of(line, digits));
-            let text = part::front(&bytes, n);
-            calls::on_data(head, searches, numbers, texts, time, sender, receiver, text)
-        }
-        Command::Timeout(time) => {
-            calls::handle_timeout(head, links, searches, numbers, texts, time, outbox)
-        }
-        Command::Reset(time) => calls::reset_refresh_timer(head, numbers, time),
-        _ => no_answer(),
-    }
+        Command::Timeout(time) => arrays.handle_timeout(time, outbox),
+        Command::Reset(time) => arrays.reset_refresh_timer(time),
+    };
+    Some(answer)
 }

@@ -16,7 +16,7 @@ fn number_at(s: &[u8], at: usize) -> usize
     ensures { (result ≡ number_at at s.now) × (result < 65536) }
 {
     let rest = part::tail(s, at);
-    256 * (part::byte_at(rest, 0) as usize) + part::byte_at(rest, 1) as usize
+    usize::from(u16::from_be_bytes([part::byte_at(rest, 0), part::byte_at(rest, 1)]))
 }
 
 // Record `k` of the outbox; nothing where it has fewer.
@@ -30,7 +30,7 @@ pub fn record_at(outbox: &[u8], k: usize) -> &[u8]
     &outbox[start..start + RECORD_SIZE]
 }
 
-// Where a record goes, and from where.
+// Where a record goes, and from where. As in answer.rt the bytes are the caller's, and the answer says how many are used.
 fn append_head(buf: &mut [u8], len: usize, s: &[u8]) -> usize
     ensures { Appends (head_line s.now) buf.old len buf.new result × (length (head_line s.now) ≤ 40) }
 {
@@ -52,29 +52,18 @@ pub fn append_record(buf: &mut [u8], len: usize, s: &[u8]) -> usize
     buffer::push(buf, next, b'\n')
 }
 
-// Marks every byte that is lent.
+// Marks every byte that is lent. Crate `recorded` has the like for the lists, with a mark of its own.
 pub fn fill(outbox: &mut [u8])
     ensures { outbox.new ≡ replicate (length outbox.old) mark }
 {
-    let mut i = 0;
-    while i < outbox.len() {
-        outbox[i] = MARK;
-        i += 1;
-    }
+    outbox.fill(MARK);
 }
 
 // Whether every byte is this one.
 fn is_all(s: &[u8], byte: u8) -> bool
     ensures { result ≡ all (eqb byte) s.now }
 {
-    let mut i = 0;
-    while i < s.len() {
-        if s[i] != byte {
-            return false;
-        }
-        i += 1;
-    }
-    true
+    s.iter().all(|b| *b == byte)
 }
 
 // Whether a record is zero behind its message.
@@ -89,13 +78,7 @@ fn is_padded(s: &[u8]) -> bool
 fn are_padded(outbox: &[u8], n: usize) -> bool
     ensures { result ≡ all_padded n outbox.now }
 {
-    let mut k = 0;
-    let mut all = true;
-    while k < n {
-        all = all & is_padded(record_at(outbox, k));
-        k += 1;
-    }
-    all
+    (0..n).all(|k| is_padded(record_at(outbox, k)))
 }
 
 // Whether a call that wrote `n` records left the rest of the outbox alone, and each record's padding zero. More records than there is room for show nothing.

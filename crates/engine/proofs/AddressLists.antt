@@ -1,59 +1,51 @@
--- Lists of addresses: the loop that looks for one, and the list without it, as the code has it in an array with a count.
+-- Lists of addresses: whether one is in a list, and the list without it.
 use mathlib.Core.Path.{◌≡◌, refl, sym, ◌∙◌, ap}
 use mathlib.Core.Bool.{cond, ◌||◌}
 use mathlib.Core.List.{List, [], ◌∷◌}
-use Prim.Native.Nat.{ℕ, suc, min, ◌+◌, ◌-◌, ◌≤◌, ◌<◌}
+use Prim.Native.Nat.{ℕ, suc, ◌-◌, ◌≤◌, ◌<◌}
 use native.Mathlib.Omega.{arith}
-use borrow.Author.Tests.{lt-ltb, le-ltb, eq-eqb, ne_eqb}
-use lib.Dec.{eqb, ltb, leb-suc-suc}
-use lib.ListN.{length, take, set, get_or, length-take}
-use lib.Seq.{get_or-take, take-take, take-set-lt}
+use lib.ListN.{length, take, set, get_or}
+use lib.Dec.{eqb}
+use native.Mathlib.Decide.{dec_le}
+use borrow.Author.Tests.{lt-ltb, le-ltb}
+use Rattle.std.proofs.Common.{None, Some}
+use Rattle.std.specs.List.{position, position_or_len, list_any, swap_remove}
+use Rattle.std.proofs.lemmas.List.{get_or_default}
+use Rattle.std.proofs.lemmas.List.Recursion.{is_position_or_len}
 use Rattle.engine.specs.Links.{contains, last_into}
-use Rattle.engine.specs.Addresses.{place_of}
 use Rattle.engine.proofs.Tables.{on}
 
--- ---- the loop: `rest` is what is left of the list behind the first i, and `t` the place in the whole
 module _ (x : ℕ) where
-  pub place_here : {t i a : ℕ} {rest more : List ℕ} → rest ≡ a ∷ more → a ≡ x → t ≡ i + place_of x rest → i ≡ t
-  unfolding place_of
-  place_here {t} {i} {a} {rest} e f h = let z : place_of x rest ≡ 0 = rw (e, eq-eqb a x f) in omega arith
+  pub contains-any : (l : List ℕ) → list_any (λ a. eqb a x) l ≡ contains x l
+  unfolding contains
+  contains-any [] = refl
+  contains-any (a ∷ l) = ap (λ b. eqb a x || b) (contains-any l)
 
-  pub place-later : (i : ℕ) {t a : ℕ} {rest more : List ℕ} → rest ≡ a ∷ more → (a ≡ x → ⊥) → t ≡ i + place_of x rest → t ≡ i + 1 + place_of x more
-  unfolding place_of
-  place-later i {t} {a} {rest} {more} e f h = let z : place_of x rest ≡ suc (place_of x more) = rw (e, ne_eqb a x f) in omega arith
+  -- the place of the first x, or the list's length
+  abbrev place_of : List ℕ → ℕ
+  place_of [] = 0
+  place_of (a ∷ l) = cond (eqb a x) 0 (suc (place_of l))
 
-  pub place-over : {t i : ℕ} {rest : List ℕ} → rest ≡ [] → t ≡ i + place_of x rest → i ≡ t
-  unfolding place_of
-  place-over {t} {i} {rest} e h = let z : place_of x rest ≡ 0 = rw e in omega arith
+  place-is : (l : List ℕ) → place_of l ≡ position_or_len (λ a. eqb a x) l
+  place-is = is_position_or_len place_of (λ a. eqb a x) refl (λ a l. ap (cond (eqb a x) 0) (omega arith))
 
--- ---- what the place tells
-module _ (x : ℕ) where
-  pub contains-place : (l : List ℕ) → contains x l ≡ ltb (place_of x l) (length l)
-  unfolding place_of contains
-  contains-place [] = sym (le-ltb 0 0 (omega arith))
-  contains-place (a ∷ l) =
-      on (λ b. (b || contains x l) ≡ ltb (cond b 0 (suc (place_of x l))) (suc (length l)))
-      (sym (lt-ltb 0 (suc (length l)) (omega arith)))
-      (contains-place l ∙ sym (leb-suc-suc (suc (place_of x l)) (length l)))
-      (eqb a x)
-
-  pub last_none : (l : List ℕ) → length l ≤ place_of x l → last_into x l ≡ l
-  unfolding place_of last_into
+  last_none : (l : List ℕ) → length l ≤ place_of l → last_into x l ≡ l
+  unfolding last_into
   last_none [] = λ h. refl
   last_none (a ∷ l) =
-      on (λ b. suc (length l) ≤ cond b 0 (suc (place_of x l)) → cond b (take (length l) (get_or l (length l - 1) 0 ∷ l)) (a ∷ last_into x l) ≡ a ∷ l)
+      on (λ b. suc (length l) ≤ cond b 0 (suc (place_of l)) → cond b (take (length l) (get_or l (length l - 1) 0 ∷ l)) (a ∷ last_into x l) ≡ a ∷ l)
       (λ h. absurd (omega arith))
       (λ h. ap (λ (t : List ℕ). a ∷ t) (last_none l (omega arith)))
       (eqb a x)
 
-  last-into : (a : ℕ) (l : List ℕ) → place_of x (a ∷ l) ≤ length l → last_into x (a ∷ l) ≡ take (length l) (set (a ∷ l) (place_of x (a ∷ l)) (get_or (a ∷ l) (length l) 0))
-  unfolding place_of last_into
+  last-into : (a : ℕ) (l : List ℕ) → place_of (a ∷ l) ≤ length l → last_into x (a ∷ l) ≡ take (length l) (set (a ∷ l) (place_of (a ∷ l)) (get_or (a ∷ l) (length l) 0))
+  unfolding last_into
   last-into a [] =
       on (λ b. cond b 0 1 ≤ 0 → cond b [] (a ∷ []) ≡ take 0 (set (a ∷ []) (cond b 0 1) a)) (λ h. refl) (λ h. absurd (omega arith)) (eqb a x)
   last-into a (c ∷ l) =
       let n = length l in
       let m : suc n - 1 ≡ n = omega arith in
-      let p = place_of x (c ∷ l) in
+      let p = place_of (c ∷ l) in
       let z = get_or (c ∷ l) n 0 in
       on (λ b. cond b 0 (suc p) ≤ suc n
       → cond b (take (suc n) (get_or (c ∷ l) (suc n - 1) 0 ∷ c ∷ l)) (a ∷ last_into x (c ∷ l)) ≡ take (suc n) (set (a ∷ c ∷ l) (cond b 0 (suc p)) z))
@@ -61,22 +53,36 @@ module _ (x : ℕ) where
       (λ h. ap (λ (t : List ℕ). a ∷ t) (last-into c l (omega arith)))
       (eqb a x)
 
-  last-at : (l : List ℕ) (n : ℕ) → length l ≡ suc n → place_of x l ≤ n → last_into x l ≡ take n (set l (place_of x l) (get_or l n 0))
+  last-at : (l : List ℕ) (n : ℕ) → length l ≡ suc n → place_of l ≤ n → last_into x l ≡ take n (set l (place_of l) (get_or l n 0))
   last-at [] n e h = absurd (omega arith)
   last-at (a ∷ l) n e h =
       let f : length l ≡ n = omega arith in
-      last-into a l (omega arith) ∙ ap (λ (k : ℕ). take k (set (a ∷ l) (place_of x (a ∷ l)) (get_or (a ∷ l) k 0))) f
+      last-into a l (omega arith) ∙ ap (λ (k : ℕ). take k (set (a ∷ l) (place_of (a ∷ l)) (get_or (a ∷ l) k 0))) f
 
-  -- as the code has it: `n` is the lesser of the count and the array's length
-  pub last-moved : (l : List ℕ) (m n at : ℕ) → n ≡ min m (length l) → at ≡ place_of x (take m l) → at < n
-      → take (n - 1) (set l at (get_or l (n - 1) 0)) ≡ last_into x (take m l)
-  last-moved l m n at e f h =
-      let s : length (take m l) ≡ suc (n - 1) = length-take m l ∙ omega arith in
-      let k : n - 1 < m = omega arith in
-      sym (
-      last-at (take m l) (n - 1) s (omega arith)
-      ∙ ap (λ (i : ℕ). take (n - 1) (set (take m l) i (get_or (take m l) (n - 1) 0))) (sym f)
-      ∙ ap (λ (v : ℕ). take (n - 1) (set (take m l) at v)) (get_or-take m l (n - 1) 0 k)
-      ∙ ap (take (n - 1)) (sym (take-set-lt m l at (get_or l (n - 1) 0) (omega arith)))
-      ∙ take-take (n - 1) m (set l at (get_or l (n - 1) 0)) (omega arith)
-      )
+  -- ---- what the place tells of the list without x
+  found : (l : List ℕ) → place_of l < length l → position (λ a. eqb a x) l ≡ Some (place_of l)
+  found l h =
+      let k = place-is l in
+      ap (λ b. cond b (Some (position_or_len (λ a. eqb a x) l)) None) (lt-ltb (position_or_len (λ a. eqb a x) l) (length l) (omega (arith, k))) ∙ ap Some (sym k)
+
+  missed : (l : List ℕ) → length l ≤ place_of l → position (λ a. eqb a x) l ≡ None
+  missed l h =
+      ap (λ b. cond b (Some (position_or_len (λ a. eqb a x) l)) None) (le-ltb (position_or_len (λ a. eqb a x) l) (length l) (omega (arith, place-is l)))
+
+  pub gone : (l : List ℕ) → position (λ a. eqb a x) l ≡ None → l ≡ last_into x l
+  gone l e = go (dec_le (length l) (place_of l))
+    where
+      go : Dec (length l ≤ place_of l) → l ≡ last_into x l
+      go (yes h) = sym (last_none l h)
+      go (no h) = let s = found l (omega arith) in absurd (grind (arith, s, e))
+
+  pub moved : (l : List ℕ) (i d : ℕ) → position (λ a. eqb a x) l ≡ Some i → swap_remove l i d ≡ last_into x l
+  moved l i d e = go (dec_le (length l) (place_of l))
+    where
+      go : Dec (length l ≤ place_of l) → swap_remove l i d ≡ last_into x l
+      go (yes h) = let s = missed l h in absurd (grind (arith, s, e))
+      go (no h) =
+          let n = length l - 1 in
+          let s = found l (omega arith) in
+          let at : i ≡ place_of l = grind (arith, s, e) in
+          (λ j. take n (set l (at j) (get_or_default l n d 0 (omega arith) j))) ∙ sym (last-at l n (omega arith) (omega arith))

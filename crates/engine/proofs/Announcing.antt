@@ -6,16 +6,7 @@ use Prim.Native.Nat.{ℕ}
 use Rattle.engine.specs.Target.{ssdp_all}
 use Rattle.engine.specs.Held.{Text}
 use Rattle.engine.specs.Records.{Record, ResponseFrom, flat, any_all, searches_of, search_on}
-use Rattle.engine.specs.Announcements.{announced_on}
 use Rattle.engine.specs.declared.advertisement.Endpoint.{Endpoint}
-use Rattle.engine.specs.declared.announce.Announcement.{Announcement}
-
-pub same-texts : (up : List ℕ) (what : Announcement) {service service' name name' location location' : List ℕ} → service ≡ service' → name ≡ name' → location ≡ location'
-    → announced_on up what service name location ≡ announced_on up what service' name' location'
-same-texts up what {service} {service'} {name} {name'} {location} {location'} p q r =
-    ap (λ (t : List ℕ). announced_on up what t name location) p
-    ∙ ap (λ (t : List ℕ). announced_on up what service' t location) q
-    ∙ ap (λ (t : List ℕ). announced_on up what service' name' t) r
 
 pub response-texts : (source : ℕ) (to : Endpoint) {service service' name name' location location' : List ℕ} → service ≡ service' → name ≡ name' → location ≡ location'
     → ◌≡◌ {A = List Record} (ResponseFrom source to service name location ∷ []) (ResponseFrom source to service' name' location' ∷ [])

@@ -1,16 +1,18 @@
 -- How a call's parts make what it promises: a refused call, and an accepted one.
-use mathlib.Core.Path.{◌≡◌, refl, sym, ◌∙◌, ap, subst}
+use mathlib.Core.Path.{◌≡◌, refl, sym, ◌∙◌, ap}
 use mathlib.Core.Bool.{Bool, true, false, cond}
 use mathlib.Core.List.{List, [], ◌∷◌, append-nil}
 use Prim.Native.Nat.{ℕ, zero, suc, ◌≤◌, ◌<◌}
-use borrow.Author.Tests.{ltb-true, ltb-false, lt-ltb, le-ltb}
-use lib.Dec.{ltb}
+use borrow.Author.Tests.{leb-true, leb-false, lt-ltb, le-ltb}
+use lib.Dec.{leb, ltb}
 use native.Mathlib.Omega.{arith}
 use native.Mathlib.Nat.{add-zero}
 use Rattle.engine.specs.Sizes.{time_max}
+use Rattle.engine.specs.RefreshTimer.{time_refusal}
+use Rattle.engine.proofs.Timer.{timely-number, late-number}
 use Rattle.engine.specs.Held.{Held, fresh}
-use Rattle.engine.specs.Calls.{Call, Timeout, Counts, zeros, plus}
-use Rattle.engine.specs.Refusals.{outbox_short, checks, refusal, new_refusal}
+use Rattle.engine.specs.Calls.{Call, Timeout, ResetTimer, Counts, zeros, plus}
+use Rattle.engine.specs.Refusals.{time_late, outbox_short, checks, refusal, new_refusal}
 use Rattle.engine.specs.Records.{Record, flat}
 use Rattle.engine.specs.Layout.{layout, written, Sent}
 use Rattle.engine.specs.Engine.{need_of, refusal_of, Step, step, accepted, refused_by, unless, new_step}
@@ -33,17 +35,28 @@ unfolding step
 step-accepted h c e = rw e
 
 -- ---- `new`
-late-or_not : (b : Bool) (time : ℕ) → ltb time_max time ≡ b → (◌≡◌ {A = ℕ} (cond b 1 0) 0 → time ≤ time_max) × ((◌≡◌ {A = ℕ} (cond b 1 0) 0 → ⊥) → time_max < time)
-late-or_not true time e = (λ h. absurd (omega arith), λ h. ltb-true time_max time e)
-late-or_not false time e = (λ h. let k = ltb-false time_max time e in omega arith, λ h. absurd (h refl))
-
-pub in_time : (time : ℕ) → new_refusal time ≡ 0 → time ≤ time_max
+pub timely-new : (time : ℕ) → time ≤ time_max → new_refusal time ≡ 0
 unfolding new_refusal
-in_time time h = (late-or_not (ltb time_max time) time refl).0 h
+timely-new time h = rw (le-ltb time_max time h)
 
-pub too_late : (time : ℕ) → (new_refusal time ≡ 0 → ⊥) → time_max < time
+pub late-new : (time : ℕ) → time_max < time → new_refusal time ≡ time_late
 unfolding new_refusal
-too_late time h = (late-or_not (ltb time_max time) time refl).1 h
+late-new time h = rw (lt-ltb time_max time h)
+
+pub time-number : (time : ℕ) → new_refusal time ≡ time_refusal time
+time-number time = go (leb time time_max) refl
+  where
+    go : (b : Bool) → leb time time_max ≡ b → new_refusal time ≡ time_refusal time
+    go true e = timely-new time (leb-true time time_max e) ∙ sym (timely-number time (leb-true time time_max e))
+    go false e = late-new time (leb-false time time_max e) ∙ sym (late-number time (leb-false time time_max e))
+
+pub timely-reset : (h : Held) (time : ℕ) → time ≤ time_max → refusal_of h (ResetTimer time) ≡ 0
+unfolding refusal_of refusal checks
+timely-reset h time k = rw (le-ltb time_max time k)
+
+pub late-reset : (h : Held) (time : ℕ) → time_max < time → refusal_of h (ResetTimer time) ≡ time_late
+unfolding refusal_of refusal checks
+late-reset h time k = rw (lt-ltb time_max time k)
 
 -- ---- handle_timeout: a time that is late refuses it; else the room, if that is short
 module _ (h : Held) (time room : ℕ) where
@@ -81,13 +94,6 @@ new-refused (suc k) seed time n = refl
 -- nothing sent by a call that takes no outbox
 pub sent-none : Sent [] [] [] 0
 sent-none = record { number = refl; bytes = sym (written_none []) }
-
--- the same records by another name
-pub sent-as : {rs rs' : List Record} {outbox outbox' : List ℕ} {k : ℕ} → Sent rs outbox outbox' k → rs ≡ rs' → Sent rs' outbox outbox' k
-sent-as {rs} {rs'} {outbox} {outbox'} {k} p e = subst (λ (x : List Record). Sent x outbox outbox' k) e p
-
-pub sent-nothing : (outbox : List ℕ) → Sent [] outbox outbox 0
-sent-nothing outbox = record { number = refl; bytes = sym (written_none outbox) }
 
 -- what is sent by a test, and what is not
 pub chosen : {b : Bool} (rs : List Record) → b ≡ true → cond b rs [] ≡ rs

@@ -7,7 +7,7 @@ use Prim.Native.Nat.{ℕ, zero, suc, ◌*◌, ◌≤◌}
 use native.Mathlib.Omega.{arith}
 use borrow.Author.Tests.{ltb-false}
 use lib.Dec.{ltb}
-use lib.ListN.{length, take, drop, get_or, length-append, length-map, length-take}
+use lib.ListN.{length, take, drop, length-append, length-map}
 use Rattle.engine.specs.Sizes.{advertisements_max, subscriptions_max, links_max, addresses_max, sources_max, records_max}
 use Rattle.engine.specs.Table.{entry_of}
 use Rattle.engine.specs.Held.{Text, Link, Context, Advertisement, advertised, by_index}
@@ -18,10 +18,11 @@ use Rattle.engine.specs.Layout.{Room}
 use Rattle.engine.specs.Need.{need}
 use Rattle.engine.specs.Engine.{names_of}
 use Rattle.engine.specs.Rows.{rows}
-use Rattle.engine.specs.Arrays.{low32, first_address, link_width, link_in, link_rows, link_count, links_in, Engine, held}
+use Rattle.engine.specs.Arrays.{link_width, link_in, link_rows, link_count, links_in, Engine, held}
 use Rattle.engine.proofs.Members.{Each, nobody, both}
 use Rattle.engine.proofs.Flat.{flat-most}
 use Rattle.engine.proofs.TableRows.{lines-length}
+use Rattle.engine.proofs.LinkRows.{addresses-few}
 use Rattle.engine.proofs.NameRows.{names-length}
 use Rattle.engine.proofs.TableRuns.{searches-length}
 use Rattle.engine.proofs.Counting.{cond-most, all_most, turn-most, refresh-most, timeout_most}
@@ -95,14 +96,10 @@ module _ (x : Context) (as' : List Advertisement) (few : Few x as') where
   records-bound (ResetTimer now) = omega arith
 
 -- ---- the tables in the lent arrays are within their sizes, whatever the arrays hold
-link_few : (r : List ℕ) → length (link_in r).addresses ≤ addresses_max
-unfolding link_in
-link_few r = omega (arith, length-map (take (get_or r 2 0) (take addresses_max (drop first_address r))) low32, length-take (get_or r 2 0) (take addresses_max (drop first_address r)), length-take addresses_max (drop first_address r))
-
 links-few : (n : ℕ) (links : List ℕ) → Each (λ l. length l.addresses ≤ addresses_max) (link_rows n links)
 unfolding rows
 links-few zero links = nobody
-links-few (suc n) links = both (link_few (take link_width links)) (links-few n (drop link_width links))
+links-few (suc n) links = both (addresses-few (take link_width links)) (links-few n (drop link_width links))
 
 pub held-few : (t : Engine) → Few (held t).context (held t).advertisements
 unfolding held links_in
@@ -112,11 +109,6 @@ held-few t = record {
   links = omega (arith, lines-length link_width link_in (link_count t.head) t.links);
   addresses = links-few (link_count t.head) t.links;
 }
-
--- a link that is looked for, in the arrays
-pub found-few : (head links : List ℕ) (index : ℕ) → length (addresses_of (link_at index (links_in head links))) ≤ addresses_max
-unfolding links_in
-found-few head links index = at-few index (links_in head links) (links-few (link_count head) links)
 
 -- ---- the outbox of an accepted call has room for its records
 pub enough : (t : Engine) (c : Call) (outbox : List ℕ) {rs : List Record} → ltb (length outbox) (need (held t).context (names_of (held t).advertisements) c) ≡ false →

@@ -1,5 +1,5 @@
 -- The head of the arrays: what a store to one place of it leaves of what is read from the others, and a head that begins.
-use mathlib.Core.Path.{◌≡◌, refl, sym, ◌∙◌, ap}
+use mathlib.Core.Path.{◌≡◌, sym, ◌∙◌, ap}
 use mathlib.Core.Logic.{◌≢◌}
 use mathlib.Core.List.{List, [], ◌∷◌}
 use Prim.Native.Nat.{ℕ, min, ◌<◌, ◌≤◌}
@@ -103,15 +103,3 @@ module _ (head : List ℕ) (t : RefreshTimer) (e : length head ≡ head_places) 
 -- ---- a head that begins
 abbrev pub begun : RefreshTimer → List ℕ
 begun t = t.random_seed ∷ t.next_salvo ∷ t.phase ∷ 0 ∷ 0 ∷ 0 ∷ []
-
-pub all_set : (head : List ℕ) (t : RefreshTimer) → length head ≡ head_places
-    → set (set (set (set (set (set head seed_place t.random_seed) salvo_place t.next_salvo) phase_place t.phase) names_place 0) links_place 0) searches_place 0
-    ≡ begun t
-all_set [] t e = absurd (omega arith)
-all_set (a ∷ []) t e = absurd (omega arith)
-all_set (a ∷ b ∷ []) t e = absurd (omega arith)
-all_set (a ∷ b ∷ c ∷ []) t e = absurd (omega arith)
-all_set (a ∷ b ∷ c ∷ d ∷ []) t e = absurd (omega arith)
-all_set (a ∷ b ∷ c ∷ d ∷ f ∷ []) t e = absurd (omega arith)
-all_set (a ∷ b ∷ c ∷ d ∷ f ∷ g ∷ []) t e = refl
-all_set (a ∷ b ∷ c ∷ d ∷ f ∷ g ∷ h ∷ l) t e = absurd (omega arith)

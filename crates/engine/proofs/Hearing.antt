@@ -6,11 +6,12 @@ use Prim.Native.Nat.{ℕ, ◌≤◌, ◌<◌}
 use native.Mathlib.Omega.{arith}
 use borrow.Author.Tests.{lt-ltb, le-ltb, ne_eqb}
 use lib.Dec.{eqb}
-use Rattle.message.specs.Parse.{ParseAnswer, answer_of, reads, parsed, field_at}
+use Rattle.message.specs.Parse.{answer_of, ParseAnswer, reads, parsed, field_at}
 use Rattle.message.specs.declared.Message.{Message}
 use Rattle.message.specs.declared.Message.TheVariants.{NotifyAlive, NotifyByeBye, Search, Response}
-use Rattle.message.specs.declared.Parsed.{Parsed}
-use Rattle.message.specs.declared.Parsed.TheVariants.{Message as Says, Empty, Invalid}
+use Rattle.std.specs.Prelude.{Result, Ok, Err}
+use Rattle.message.specs.declared.ParseError.{ParseError}
+use Rattle.message.specs.declared.ParseError.TheVariants.{Empty, Invalid}
 use Rattle.text.specs.declared.white.Place.{Place}
 use Rattle.engine.specs.Sizes.{time_max}
 use Rattle.engine.specs.Reading.{Subject, Asking, Notice, subject_of, place_of, noticed, type_of, is_notice}
@@ -22,10 +23,10 @@ use Rattle.engine.specs.Refusals.{checks, refusal, subject_checks, search_checks
 use Rattle.engine.specs.Engine.{notifies_by, notifies_of, notifies_about}
 
 -- an answer that holds no message is refused by its number
-pub no_message : (p : Parsed) → ((m : Message) → p ≡ Says m → ⊥) → (answer_of p).refusal ≡ 0 → ⊥
-no_message (Says m) k z = k m refl
-no_message Empty k z = omega arith
-no_message Invalid k z = omega arith
+pub no_message : (p : Result Message ParseError) → ((m : Message) → p ≡ Ok m → ⊥) → (answer_of p).refusal ≡ 0 → ⊥
+no_message (Ok m) k z = k m refl
+no_message (Err Empty) k z = omega arith
+no_message (Err Invalid) k z = omega arith
 
 -- a message that is no search is a notice
 pub no_search : (m : Message) → ((st : Place) → (mx : ℕ) → m ≡ Search st mx → ⊥) → is_notice m ≡ true

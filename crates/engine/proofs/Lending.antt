@@ -13,14 +13,18 @@ use Rattle.engine.specs.Sizes.{advertisements_max, subscriptions_max}
 use Rattle.engine.specs.Rows.{rows}
 use Rattle.engine.specs.Slots.{insert_at, remove_at}
 use Rattle.engine.specs.Table.{known, entry_of, enter, leave}
-use Rattle.engine.specs.Spot.{Spotted}
-use Rattle.engine.specs.declared.table.Spot.{Spot}
+use Rattle.std.proofs.Common.{Result}
+use Rattle.std.specs.Result.{is_ok}
+use Rattle.engine.specs.Spot.{place, Spotted}
 use Rattle.engine.specs.RefreshTimer.{timer_new, timer_reset, timer_step}
 use Rattle.engine.specs.declared.refresh_timer.RefreshTimer.{RefreshTimer}
 use Rattle.engine.specs.Held.{Text, Link, Advertisement, Held, holding, fresh, advertised}
 use Rattle.engine.specs.Calls.{Call, Counts, zeros, acts}
 use Rattle.engine.specs.Replies.{waiting, waits, sum_of, soonest, newcomer, results}
-use Rattle.engine.specs.Refusals.{new_refusal}
+use Rattle.engine.specs.Refusals.{new_refusal, number_of, refused_as}
+use Rattle.std.specs.Prelude.{Result, Err}
+use Rattle.engine.specs.declared.refusals.Refusal.{Refusal}
+use Rattle.engine.specs.declared.refusals.Refusal.TheVariants.{TimeLate, OutboxShort, TextOverSize, TextNotGood, TableFull, WaitZero, TargetOverSize, IndexZero, AddressLength, LinksFull, JoinFailed}
 use Rattle.engine.specs.Records.{records, byebye_on, flat}
 use Rattle.engine.specs.Layout.{written, Sent}
 use Rattle.engine.specs.Links.{context_after}
@@ -66,6 +70,27 @@ refused-answers t c outbox r k e n answer =
       sent = sym (ap (λ (x : Step). written x.sent outbox) s ∙ written_none outbox);
       untouched = λ _. refl;
     }
+
+-- no refusal has number 0
+pub number-not0 : (e : Refusal) → number_of e ≡ 0 → ⊥
+number-not0 TimeLate h = omega arith
+number-not0 OutboxShort h = omega arith
+number-not0 TextOverSize h = omega arith
+number-not0 TextNotGood h = omega arith
+number-not0 TableFull h = omega arith
+number-not0 WaitZero h = omega arith
+number-not0 TargetOverSize h = omega arith
+number-not0 IndexZero h = omega arith
+number-not0 AddressLength h = omega arith
+number-not0 LinksFull h = omega arith
+number-not0 JoinFailed h = omega arith
+
+-- a call that refused for e, the number of which its answer has
+pub refused-for : (t : Engine) (c : Call) (outbox : List ℕ) (r : Answer) (k : ℕ) (e : Refusal) {checked : Result (Unit {0}) Refusal} →
+    refused_as checked ≡ refusal_of (held t) c → checked ≡ Err e → k ≡ number_of e → r ≡ (refused_by k (held t)).answer →
+    Answers t c outbox outbox (answered t r)
+refused-for t c outbox r k e {checked} as' is number answer =
+    refused-answers t c outbox r k (sym as' ∙ ap refused_as is ∙ sym number) (λ z. number-not0 e (sym number ∙ z)) answer
 
 -- ---- an accepted call, part by part: what the arrays hold after it, what it counts, whom it notifies and what it sends
 abbrev pub Done : Held → Call → Held
@@ -194,15 +219,15 @@ room-left : (b t : Bool) → (not b && t) ≡ false → b ≡ false → t ≡ fa
 room-left true t e f = absurd (true≢false f)
 room-left false t e f = e
 
-module _ (head numbers texts : List ℕ) (name : Text) (spot : Spot) (s : Spotted advertised name (names_in head numbers texts) spot) where
-  pub spot_lt : spot.known ≡ true → spot.at < name_count head
+module _ (head numbers texts : List ℕ) (name : Text) (spot : Result ℕ ℕ) (s : Spotted advertised name (names_in head numbers texts) spot) where
+  pub spot_lt : is_ok spot ≡ true → (place spot) < name_count head
   spot_lt k = omega (arith, s.at, names-length head numbers texts, known-lt advertised name (names_in head numbers texts) (sym s.known ∙ k))
 
-  pub spot_le : spot.at ≤ name_count head
+  pub spot_le : (place spot) ≤ name_count head
   spot_le = omega (arith, s.at, names-length head numbers texts, rank-le advertised name (names_in head numbers texts))
 
   pub spot_free : (not (known advertised name (names_in head numbers texts)) && leb advertisements_max (length (names_in head numbers texts))) ≡ false →
-      spot.known ≡ false → name_count head < advertisements_max
+      is_ok spot ≡ false → name_count head < advertisements_max
   spot_free e k =
       omega (
         arith,
@@ -210,32 +235,32 @@ module _ (head numbers texts : List ℕ) (name : Text) (spot : Spot) (s : Spotte
         leb-false advertisements_max (length (names_in head numbers texts)) (room-left (known advertised name (names_in head numbers texts)) _ e (sym s.known ∙ k)),
       )
 
-  entry-spotted : entry_of advertised name (names_in head numbers texts) ≡ cond spot.known (entry_at spot.at numbers texts ∷ []) []
-  entry-spotted = go spot.known refl
+  entry-spotted : entry_of advertised name (names_in head numbers texts) ≡ cond (is_ok spot) (entry_at (place spot) numbers texts ∷ []) []
+  entry-spotted = go (is_ok spot) refl
     where
-      go : (b : Bool) → spot.known ≡ b → entry_of advertised name (names_in head numbers texts) ≡ cond b (entry_at spot.at numbers texts ∷ []) []
+      go : (b : Bool) → is_ok spot ≡ b → entry_of advertised name (names_in head numbers texts) ≡ cond b (entry_at (place spot) numbers texts ∷ []) []
       go true k =
           entry_known advertised name (names_in head numbers texts) blank (sym s.known ∙ k)
           ∙ ap (λ (i : ℕ). get_or (names_in head numbers texts) i blank ∷ []) (sym s.at)
-          ∙ ap (λ (x : Advertisement). x ∷ []) (name-is head numbers texts spot.at (spot_lt k))
+          ∙ ap (λ (x : Advertisement). x ∷ []) (name-is head numbers texts (place spot) (spot_lt k))
       go false k = entry-unknown advertised name (names_in head numbers texts) (sym s.known ∙ k)
 
   -- its waiting reply and its byebyes
-  pub dropped-is : cond spot.known (waits (reply_at spot.at numbers)) 0 ≡ waiting (entry_of advertised name (names_in head numbers texts))
+  pub dropped-is : cond (is_ok spot) (waits (reply_at (place spot) numbers)) 0 ≡ waiting (entry_of advertised name (names_in head numbers texts))
   unfolding waiting sum_of entry_in
-  dropped-is = go spot.known ∙ ap waiting (sym entry-spotted)
+  dropped-is = go (is_ok spot) ∙ ap waiting (sym entry-spotted)
     where
-      go : (b : Bool) → cond b (waits (reply_at spot.at numbers)) 0 ≡ waiting (cond b (entry_at spot.at numbers texts ∷ []) [])
-      go true = sym (add-zero (waits (reply_at spot.at numbers)))
+      go : (b : Bool) → cond b (waits (reply_at (place spot) numbers)) 0 ≡ waiting (cond b (entry_at (place spot) numbers texts ∷ []) [])
+      go true = sym (add-zero (waits (reply_at (place spot) numbers)))
       go false = refl
 
-  pub byebyes_are : (up : List ℕ) → cond spot.known (byebye_on up (entry_at spot.at numbers texts)) [] ≡ flat (byebye_on up) (entry_of advertised name (names_in head numbers texts))
-  byebyes_are up = flat-one (byebye_on up) spot.known (entry_at spot.at numbers texts) ∙ ap (flat (byebye_on up)) (sym entry-spotted)
+  pub byebyes_are : (up : List ℕ) → cond (is_ok spot) (byebye_on up (entry_at (place spot) numbers texts)) [] ≡ flat (byebye_on up) (entry_of advertised name (names_in head numbers texts))
+  byebyes_are up = flat-one (byebye_on up) (is_ok spot) (entry_at (place spot) numbers texts) ∙ ap (flat (byebye_on up)) (sym entry-spotted)
 
   -- the names after it was put over the one that is held, was put in, or was taken out
   module _ (n : ℕ) (count : n ≡ name_count head) (numbers' texts' : List ℕ) where
-    pub entered-over : (service location : Text) → spot.known ≡ true →
-        entries n numbers' texts' ≡ set (entries n numbers texts) spot.at (newcomer name service location) →
+    pub entered-over : (service location : Text) → is_ok spot ≡ true →
+        entries n numbers' texts' ≡ set (entries n numbers texts) (place spot) (newcomer name service location) →
         NamesAfter n numbers' texts' (enter advertised (newcomer name service location) (names_in head numbers texts))
     unfolding names_in
     entered-over service location k r = record {
@@ -243,8 +268,8 @@ module _ (head numbers texts : List ℕ) (name : Text) (spot : Spot) (s : Spotte
       rows = r ∙ (λ i. set (entries (count i) numbers texts) (s.at i) (newcomer name service location)) ∙ sym (enter-known advertised (newcomer name service location) (names_in head numbers texts) (sym s.known ∙ k));
     }
 
-    pub entered-in : (service location : Text) → spot.known ≡ false → n < advertisements_max →
-        entries (suc n) numbers' texts' ≡ insert_at spot.at (newcomer name service location) (entries n numbers texts) →
+    pub entered-in : (service location : Text) → is_ok spot ≡ false → n < advertisements_max →
+        entries (suc n) numbers' texts' ≡ insert_at (place spot) (newcomer name service location) (entries n numbers texts) →
         NamesAfter (n + 1) numbers' texts' (enter advertised (newcomer name service location) (names_in head numbers texts))
     unfolding names_in
     entered-in service location k h r = record {
@@ -253,7 +278,7 @@ module _ (head numbers texts : List ℕ) (name : Text) (spot : Spot) (s : Spotte
           ∙ sym (enter-unknown advertised (newcomer name service location) (names_in head numbers texts) (sym s.known ∙ k));
     }
 
-    pub left_out : spot.known ≡ true → entries (n - 1) numbers' texts' ≡ remove_at spot.at (entries n numbers texts) →
+    pub left_out : is_ok spot ≡ true → entries (n - 1) numbers' texts' ≡ remove_at (place spot) (entries n numbers texts) →
         NamesAfter (n - 1) numbers' texts' (leave advertised name (names_in head numbers texts))
     unfolding names_in
     left_out k r = record {
@@ -261,12 +286,9 @@ module _ (head numbers texts : List ℕ) (name : Text) (spot : Spot) (s : Spotte
       rows = r ∙ (λ i. remove_at (s.at i) (entries (count i) numbers texts)) ∙ sym (leave-known advertised name (names_in head numbers texts) (sym s.known ∙ k));
     }
 
-  pub left_same : (n : ℕ) → n ≡ name_count head → spot.known ≡ false → NamesAfter n numbers texts (leave advertised name (names_in head numbers texts))
+  pub left_same : (n : ℕ) → n ≡ name_count head → is_ok spot ≡ false → NamesAfter n numbers texts (leave advertised name (names_in head numbers texts))
   unfolding names_in
   left_same n count k = record {
     few = omega arith;
     rows = ap (λ (m : ℕ). entries m numbers texts) count ∙ sym (leave-unknown advertised name (names_in head numbers texts) (sym s.known ∙ k));
   }
-
-pub taken-first : {A : Type 0} {b : Bool} (x y : A) → b ≡ true → cond b x y ≡ x
-taken-first x y e = rw e

@@ -9,8 +9,6 @@ pub mod Matching
 pub mod StarCases
 pub mod Tables
 pub mod Slots
-pub mod LinkTables
-pub mod Fields
 pub mod Passes
 pub mod Waits
 pub mod Masks
@@ -25,9 +23,7 @@ pub mod Runs
 pub mod Announcing
 pub mod Counting
 pub mod RecordCount
-pub mod Copies
 pub mod TableRows
-pub mod Moves
 pub mod NameRows
 pub mod LinkRows
 pub mod SearchRows

@@ -1,50 +1,25 @@
--- Laws of matching targets: how the code's places and numbers give the definition, that a type matches itself, and that a target that matches a good
+-- Laws of matching targets: that a type matches itself, and that a target that matches a good
 -- type is a good text: its left part is the type's and its right part a number, or it is the type.
-use Prim.Native.Nat.{ℕ, suc, ◌+◌, ◌-◌, ◌≤◌, ◌<◌}
+use Prim.Native.Nat.{ℕ, suc, ◌+◌, ◌<◌}
 use mathlib.Core.Path.{◌≡◌, refl, ap, sym, ◌∙◌}
-use mathlib.Core.Bool.{Bool, true, false, cond, ◌&&◌, ◌||◌, and-eq-true_iff, false≢true, and-false}
+use mathlib.Core.Bool.{Bool, true, false, cond, ◌&&◌, ◌||◌, and-eq-true_iff, false≢true}
 use mathlib.Core.List.{List, [], ◌∷◌, ◌++◌}
 use native.Mathlib.Omega.{arith}
 use native.Mathlib.Numerals.{add-one}
 use lib.Dec.{leb, ltb, eqb}
-use lib.ListN.{length, take, drop, get_or}
+use lib.ListN.{length, drop, get_or}
 use lib.Seq.{split_at}
-use borrow.Author.Tests.{lt-ltb, le-ltb, le-leb, ltb-true, eqb-true, leb-true}
+use borrow.Author.Tests.{le-leb, ltb-true, eqb-true, leb-true}
 use Rattle.text.specs.Range.{within}
 use Rattle.text.specs.Bytes.{equal, last_index_of}
 use Rattle.text.specs.Range.{every}
 use Rattle.text.specs.Number.{number, unsigned, more, value, digits, max64}
 use Rattle.text.specs.Good.{good_text}
-use Rattle.text.specs.declared.number.Number.{Number}
-use Rattle.text.specs.declared.number.Number.TheVariants.{Value, Invalid}
+use Rattle.std.specs.Prelude.{Option, Some, None}
 use Rattle.text.proofs.Comparing.{equal_is, equal-refl}
-use Rattle.engine.proofs.Parts.{both_true, rest_from}
+use Rattle.engine.proofs.Parts.{both_true}
 use Rattle.engine.specs.Target.{ssdp_all, colon, last_colon, has_colon, base_part, version, at_least, version_match, target_match}
 use Rattle.engine.proofs.Splicing.{plain, all_plain, Plain, splice_end}
-
--- numbers that the code has found
-pub at-least-of : (w o : Number) (a b : ℕ) → w ≡ Value a → o ≡ Value b → leb a b ≡ at_least w o
-at-least-of w o a b p q = rw (p, q)
-
-module _ (s t : List ℕ) where
-  pub without_colon : (i : ℕ) → i ≡ last_colon s → length s ≤ i → false ≡ version_match s t
-  unfolding version_match
-  without_colon i e h = let n : ltb (last_colon s) (length s) ≡ false = le-ltb (last_colon s) (length s) (omega (arith, e)) in rw n
-
-  pub no_other_colon : (j : ℕ) → j ≡ last_colon t → length t ≤ j → false ≡ version_match s t
-  unfolding version_match
-  no_other_colon j e h =
-      let n : ltb (last_colon t) (length t) ≡ false = le-ltb (last_colon t) (length t) (omega (arith, e)) in
-      rw (n, and-false (has_colon s))
-
-  pub both-split : (i j : ℕ) (q b : Bool) (w o : Number) → i ≡ last_colon s → j ≡ last_colon t → i < length s → j < length t
-      → q ≡ equal (take i s) (take j t) → w ≡ number max64 (take (length s - (i + 1)) (drop (i + 1) s)) → o ≡ number max64 (take (length t - (j + 1)) (drop (j + 1) t))
-      → b ≡ at_least w o → (q && b) ≡ version_match s t
-  unfolding version_match
-  both-split i j q b w o e d h g eq-parts ew eo eb =
-      let n : ltb (last_colon s) (length s) ≡ true = lt-ltb (last_colon s) (length s) (omega (arith, e)) in
-      let m : ltb (last_colon t) (length t) ≡ true = lt-ltb (last_colon t) (length t) (omega (arith, d)) in
-      rw (n, m, eq-parts, eb, ew, eo, rest_from s (i + 1), rest_from t (j + 1), e, d)
 
 -- a type matches itself, and every type `ssdp:all`
 pub or_second : (a c : Bool) → (a || true || c) ≡ true
@@ -74,24 +49,24 @@ digits-plain (d ∷ s) e =
     let h = both_true (within 48 57 d) (digits s) e in
     (and-eq-true_iff (plain d) (all_plain s)).1 (digit-plain d h.0, digits-plain s h.1)
 
-never : {A : Type 0} {v : ℕ} → Invalid ≡ Value v → A
+never : {A : Type 0} {v : ℕ} → None ≡ Some v → A
 never {A} {v} e = absurd (let z : ◌≡◌ {A = ℕ} 0 1 = cc in omega arith)
 
-unsigned-plain : (max : ℕ) (s : List ℕ) {v : ℕ} → unsigned max s ≡ Value v → Plain s
+unsigned-plain : (max : ℕ) (s : List ℕ) {v : ℕ} → unsigned max s ≡ Some v → Plain s
 unfolding unsigned more
 unsigned-plain max [] e = never e
 unsigned-plain max (d ∷ s) {v} e = go (digits (d ∷ s)) (leb (value 0 (d ∷ s)) max) refl e
   where
-    go : (a b : Bool) → digits (d ∷ s) ≡ a → cond (a && b) (Value (value 0 (d ∷ s))) Invalid ≡ Value v → Plain (d ∷ s)
+    go : (a b : Bool) → digits (d ∷ s) ≡ a → cond (a && b) (Some (value 0 (d ∷ s))) None ≡ Some v → Plain (d ∷ s)
     go true b h q = record { bytes = digits-plain (d ∷ s) h; some = omega arith }
     go false b h q = never q
 
-number-plain : (max : ℕ) (s : List ℕ) {v : ℕ} → number max s ≡ Value v → Plain s
+number-plain : (max : ℕ) (s : List ℕ) {v : ℕ} → number max s ≡ Some v → Plain s
 unfolding number
 number-plain max [] e = never e
 number-plain max (a ∷ s) {v} e = go (eqb a 43) refl e
   where
-    go : (t : Bool) → eqb a 43 ≡ t → cond t (unsigned max s) (unsigned max (a ∷ s)) ≡ Value v → Plain (a ∷ s)
+    go : (t : Bool) → eqb a 43 ≡ t → cond t (unsigned max s) (unsigned max (a ∷ s)) ≡ Some v → Plain (a ∷ s)
     go true h q = record {
       bytes = rw (eqb-true a 43 h) (unsigned-plain max s q).bytes;
       some = omega arith;
@@ -99,12 +74,12 @@ number-plain max (a ∷ s) {v} e = go (eqb a 43) refl e
     go false h q = unsigned-plain max (a ∷ s) q
 
 -- so has the number of a search that some version meets
-wanted_plain : (max : ℕ) (s : List ℕ) (o : Number) → at_least (number max s) o ≡ true → Plain s
+wanted_plain : (max : ℕ) (s : List ℕ) (o : Option ℕ) → at_least (number max s) o ≡ true → Plain s
 wanted_plain max s o e = go (number max s) refl e
   where
-    go : (w : Number) → number max s ≡ w → at_least w o ≡ true → Plain s
-    go (Value v) h q = number-plain max s h
-    go Invalid h q = absurd (false≢true q)
+    go : (w : Option ℕ) → number max s ≡ w → at_least w o ≡ true → Plain s
+    go (Some v) h q = number-plain max s h
+    go None h q = absurd (false≢true q)
 
 -- a colon stands at the place of the last colon
 pub last_found : (b : ℕ) (s : List ℕ) → last_index_of b s < length s → get_or s (last_index_of b s) 0 ≡ b

@@ -1,19 +1,18 @@
 -- Laws of the table of names: a row of the two arrays read, changed, put in and taken out.
 use mathlib.Core.Path.{◌≡◌, refl, sym, ◌∙◌, ap, subst}
 use mathlib.Core.List.{List, [], ◌∷◌, ◌++◌, append_assoc}
-use Prim.Native.Nat.{ℕ, suc, min, ◌+◌, ◌*◌, ◌-◌, ◌≤◌, ◌<◌}
-use native.Mathlib.Nat.{mod-eq_of_lt, min-eq_left, min-eq_right}
-use native.Mathlib.Decide.{dec_le}
+use Prim.Native.Nat.{ℕ, suc, ◌+◌, ◌*◌, ◌-◌, ◌≤◌, ◌<◌}
+use native.Mathlib.Nat.{mod-eq_of_lt}
 use native.Mathlib.Numerals.{add-one}
 use native.Mathlib.Omega.{arith}
 use lib.ListN.{length, take, drop, set, get_or, length-take, length-drop, drop_of_length-le}
-use lib.Seq.{drop-cons, take-add, take-take, take_all, take_at, drop_at, drop-drop, length-take-le, get_or-take, get_or-drop, get_or-set_same, get_or-set_other}
+use lib.Seq.{drop-cons, take-add, take-take, take_at, drop_at, drop-drop, length-take-le, get_or-take, get_or-drop, get_or-set_same, get_or-set_other}
 use Rattle.text.specs.Put.{overwritten, Put}
 use Rattle.message.specs.Build.{type_max, name_max}
 use Rattle.engine.specs.Sizes.{advertisements_max, location_max}
 use Rattle.engine.specs.Held.{Advertisement}
 use Rattle.engine.specs.Slots.{insert_at, remove_at}
-use Rattle.engine.specs.Shifts.{moved_up, moved_down}
+use Rattle.std.specs.List.{copy_within}
 use Rattle.engine.specs.Replies.{newcomer}
 use Rattle.engine.specs.Rows.{row}
 use Rattle.engine.specs.Arrays.{numbers_width, numbers_size, texts_width, texts_size, service_place, location_place, answer_place, text_in, reply_of, reply_in, reply_at, entry_in, entry_at, entries, name_count, names_in}
@@ -67,16 +66,6 @@ module _ (w i : ℕ) (l : List ℕ) where
       ∙ ap (take size) (drop_at (take place m) (take k (drop place m)) place (length-take-le place m (omega (arith, length-drop (w * i) l))))
       ∙ take-take size k (drop place m) (omega arith)
       ∙ ap (take size) (drop-drop place (w * i) l)
-
--- a text cut to its size, and no longer than it
-pub cut : (n m : ℕ) (l : List ℕ) → take (min n m) l ≡ take n (take m l)
-cut n m l = go (dec_le n m)
-  where
-    go : Dec (n ≤ m) → take (min n m) l ≡ take n (take m l)
-    go (yes h) = ap (λ (k : ℕ). take k l) (min-eq_left h) ∙ sym (take-take n m l h)
-    go (no h) =
-        ap (λ (k : ℕ). take k l) (min-eq_right {n = m} {m = n} (omega arith))
-        ∙ sym (take_all n (take m l) (omega (arith, length-take m l)))
 
 pub text-fits : {r : List ℕ} (len place size : ℕ) (q : List ℕ) → r ≡ text_in len place size q → length r ≤ size
 text-fits len place size q e = omega (arith, ap length e, length-take len (take size (drop place q)), length-take size (drop place q))
@@ -188,15 +177,26 @@ new-texts q a b c n k l eq ea eb ec hn hk hl x y z =
       location = take-take (length l) location_max (drop location_place c) hl ∙ put-there (omega arith) z;
     }
 
--- ---- a type's field, whose bytes are copied one by one
-pub field-byte : (ts : List ℕ) (place i : ℕ) → get_or ts (place + i) 0 ≡ get_or (drop place ts) i 0
-field-byte ts place i = sym (get_or-drop place ts i 0)
+-- another answer type, written over the end of a row: a text, or the type of the row
+module _ (q : List ℕ) (wide : length q ≡ texts_width) where
+  pub answer-put : (t : List ℕ) {q' : List ℕ} {r : ℕ} → length t ≤ type_max → Put q answer_place t q' r → Answered (length t) t q q'
+  answer-put t {q'} h p = record {
+    front = put_front (omega arith) p;
+    answer = take-take (length t) type_max (drop answer_place q') h ∙ put-there (omega arith) p;
+  }
 
-pub field-enough : (ts : List ℕ) (place : ℕ) → place + type_max ≤ length ts → type_max ≤ length (drop place ts)
-field-enough ts place h = omega (arith, length-drop place ts)
-
-pub answer-placed : {q q' xs : List ℕ} → length xs ≡ type_max → (take answer_place q' ≡ take answer_place q) × (drop answer_place q' ≡ xs) → Answered xs q q'
-answer-placed {xs = xs} full (front, back) = record { front = front; answer = ap (take type_max) back ∙ take_all type_max xs (omega arith) }
+  pub answer-own : {q' : List ℕ} (len : ℕ) → q' ≡ copy_within q service_place (service_place + type_max) answer_place
+      → Answered len (text_in len service_place type_max q) q q'
+  answer-own {q'} len e =
+      let own = take type_max (drop service_place q) in
+      let rest = drop (answer_place + type_max) q in
+      let all : q' ≡ take answer_place q ++ (own ++ rest) = e ∙ append_assoc (take answer_place q) own rest in
+      let front = length-take-le answer_place q (omega arith) in
+      let size : length own ≡ type_max = length-take-le type_max (drop service_place q) (omega (arith, length-drop service_place q)) in
+      record {
+        front = ap (take answer_place) all ∙ take_at (take answer_place q) (own ++ rest) answer_place front;
+        answer = ap (take len) (ap (take type_max) (ap (drop answer_place) all ∙ drop_at (take answer_place q) (own ++ rest) answer_place front) ∙ take_at own rest type_max size);
+      }
 
 -- ---- a row replaced, as a part `[w * i..w * i + w]` of its array that was lent comes back
 part-is : (a w : ℕ) (l : List ℕ) → take ((a + w) - a) (drop a l) ≡ take w (drop a l)
@@ -246,11 +246,11 @@ module _ (i : ℕ) (ns ts r : List ℕ) where
     }
 
     -- another reply and answer type: the entry is the one before with the two changed
-    pub active_row : (reply : ResponseNeeded) {len : ℕ} (m : ℕ) (answer : List ℕ) → length r ≡ numbers_width → length q ≡ texts_width → texts_width * i + texts_width ≤ length ts
-        → len ≡ m → Replied reply len numbers_part r → Answered answer texts_part q
-        → Filled i (with_active reply (take m answer) (entry_at i ns ts)) ns ts numbers_after texts_after
+    pub active_row : (reply : ResponseNeeded) {len : ℕ} {answer : List ℕ} → length r ≡ numbers_width → length q ≡ texts_width → texts_width * i + texts_width ≤ length ts
+        → Replied reply len numbers_part r → Answered len answer texts_part q
+        → Filled i (with_active reply answer (entry_at i ns ts)) ns ts numbers_after texts_after
     unfolding entry_in
-    active_row reply m answer e f g same o t =
+    active_row reply e f g o t =
         let x = part-is (numbers_width * i) numbers_width ns in
         let s = row texts_width i ts in
         let whole : length s ≡ texts_width = length-take-le texts_width (drop (texts_width * i) ts) (omega (arith, length-drop (texts_width * i) ts)) in
@@ -267,11 +267,18 @@ module _ (i : ℕ) (ns ts r : List ℕ) where
             service = take ((o.service ∙ ap (λ (z : List ℕ). get_or z 1 0) x) j) (part service_place type_max (omega arith) j);
             location = take ((o.location ∙ ap (λ (z : List ℕ). get_or z 2 0) x) j) (part location_place location_max (omega arith) j);
             needed = o.reply j;
-            answer = take ((o.answer ∙ same) j) (t.answer j);
+            answer = (ap (λ (k : ℕ). text_in k answer_place type_max q) o.answer ∙ t.answer) j;
           };
           first = numbers-back;
           second = texts-back;
         }
+
+  -- the type of row i, as its own row and its array have it
+  pub own_type : (len : ℕ) → len ≡ get_or ns (numbers_width * i + 1) 0
+      → text_in len service_place type_max (take ((texts_width * i + texts_width) - texts_width * i) (drop (texts_width * i) ts)) ≡ (entry_at i ns ts).service
+  unfolding entry_in
+  own_type len e =
+      λ j. text_in ((e ∙ sym (number-at numbers_width i ns 1 (omega arith))) j) service_place type_max (part-is (texts_width * i) texts_width ts j)
 
   pub reply-stored : (n : ℕ) (reply : ResponseNeeded) → i < n → numbers_width * i + numbers_width ≤ length ns → length r ≡ numbers_width → Replied reply (get_or numbers_part 3 0) numbers_part r
       → entries n numbers_after ts ≡ change_at blank i (λ a. with_active reply a.answer a) (entries n ns ts)
@@ -295,13 +302,13 @@ module _ (i : ℕ) (ns ts r : List ℕ) where
 -- ---- entries put in, replaced and taken out
 module _ (n i : ℕ) (ns ts : List ℕ) (a : length ns ≡ numbers_size) (b : length ts ≡ texts_size) where
   pub put_in : (x : Advertisement) {u t ns' ts' : List ℕ} → i ≤ n → n < advertisements_max
-      → (u ≡ moved_up (numbers_width * i) (numbers_width * n) numbers_width ns) × (t ≡ moved_up (texts_width * i) (texts_width * n) texts_width ts) → Filled i x u t ns' ts'
+      → u ≡ copy_within ns (numbers_width * i) (numbers_width * n) (numbers_width * i + numbers_width) → t ≡ copy_within ts (texts_width * i) (texts_width * n) (texts_width * i + texts_width) → Filled i x u t ns' ts'
       → entries (suc n) ns' ts' ≡ insert_at i x (entries n ns ts)
-  put_in x h g m f =
+  put_in x h g m o f =
       let e : n ≡ (n - i) + i = omega arith in
       rows.rows-insert numbers_width texts_width entry_in n (n - i) i ns ts f.row _ f.line _ e (omega arith) (omega arith) f.sizes.0 f.sizes.1
-      (f.first ∙ rows.filled numbers_width ns n (n - i) i e f.row (omega arith) m.0)
-      (f.second ∙ rows.filled texts_width ts n (n - i) i e f.line (omega arith) m.1)
+      (f.first ∙ rows.filled numbers_width ns n (n - i) i e f.row (omega arith) m)
+      (f.second ∙ rows.filled texts_width ts n (n - i) i e f.line (omega arith) o)
       ∙ ap (λ (y : Advertisement). insert_at i y (entries n ns ts)) f.entry
 
   pub put-over : (x : Advertisement) {ns' ts' : List ℕ} → i < n → n ≤ advertisements_max → Filled i x ns ts ns' ts' → entries n ns' ts' ≡ set (entries n ns ts) i x
@@ -317,12 +324,12 @@ module _ (n i : ℕ) (ns ts : List ℕ) (a : length ns ≡ numbers_size) (b : le
   put-active reply answer h g f =
       put-over _ h g f ∙ ap (λ (x : Advertisement). set (entries n ns ts) i (with_active reply answer x)) (sym (entry-is n i ns ts h))
 
-  pub taken_out : {ns' ts' : List ℕ} → i < n → n ≤ advertisements_max → ns' ≡ moved_down (numbers_width * i) (numbers_width * (n - 1)) numbers_width ns
-      → ts' ≡ moved_down (texts_width * i) (texts_width * (n - 1)) texts_width ts → entries (n - 1) ns' ts' ≡ remove_at i (entries n ns ts)
+  pub taken_out : {ns' ts' : List ℕ} → i < n → n ≤ advertisements_max → ns' ≡ copy_within ns (numbers_width * i + numbers_width) (numbers_width * n) (numbers_width * i)
+      → ts' ≡ copy_within ts (texts_width * i + texts_width) (texts_width * n) (texts_width * i) → entries (n - 1) ns' ts' ≡ remove_at i (entries n ns ts)
   taken_out h g p q =
       let m = n - 1 in
       let e : m ≡ (m - i) + i = omega arith in
       let s : suc m ≡ n = omega arith in
       rows.rows-remove numbers_width texts_width entry_in m (m - i) i ns ts _ _ e (omega arith) (omega arith)
-      (rows.closed numbers_width ns m (m - i) i e (omega arith) p) (rows.closed texts_width ts m (m - i) i e (omega arith) q)
+      (rows.closed numbers_width ns m (m - i) i e (omega arith) (rw s p)) (rows.closed texts_width ts m (m - i) i e (omega arith) (rw s q))
       ∙ ap (λ (k : ℕ). remove_at i (entries k ns ts)) s

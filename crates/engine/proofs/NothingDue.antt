@@ -15,7 +15,8 @@ use Rattle.engine.specs.Layout.{Sent}
 use Rattle.engine.specs.Outcomes.{sends}
 use Rattle.engine.specs.Refusals.{new_refusal}
 use Rattle.engine.specs.Engine.{refusal_of, poll}
-use Rattle.engine.proofs.Answering.{plus-zeros, sent-as, sent-nothing, not_chosen, roomy_timeout}
+use Rattle.engine.proofs.Answering.{plus-zeros, not_chosen, roomy_timeout}
+use Rattle.engine.proofs.Sending.{sent-as, sent-nothing}
 use Rattle.engine.proofs.RecordCount.{need-is}
 use Rattle.engine.proofs.Lending.{Done}
 use Rattle.engine.specs.Records.{flat, is_due, reply_records, due_records, refresh_records, records}

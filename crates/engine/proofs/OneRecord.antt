@@ -2,17 +2,19 @@
 use mathlib.Core.Path.{◌≡◌, refl, sym, ◌∙◌, ap, subst}
 use mathlib.Core.Bool.{Bool, true, false, cond, not, ◌||◌}
 use mathlib.Core.List.{List, [], ◌∷◌, ◌++◌, append_assoc, append-nil}
-use Prim.Native.Nat.{ℕ, ◌+◌, ◌-◌, ◌*◌, ◌≤◌, ◌<◌}
+use Prim.Native.Nat.{ℕ, ◌+◌, ◌-◌, ◌*◌, ◌≤◌}
 use native.Mathlib.Omega.{arith}
 use native.Mathlib.Nat.{zero-add}
 use borrow.Author.Tests.{le-ltb}
 use lib.Dec.{ltb, eqb}
-use lib.ListN.{length, take, drop, set, replicate, length-append, length-drop, length-replicate, get_or-replicate, take-append-drop}
-use lib.Seq.{paste, length-take-le, take-add, take-append-le, take-take, drop-append-add, drop-drop, drop_at, take-append_seam}
+use lib.ListN.{length, take, drop, replicate, length-append, length-drop, length-replicate, take-append-drop}
+use lib.Seq.{length-take-le, take-add, take-append-le, take-take, drop-append-add, drop-drop, drop_at, take-append_seam}
 use Rattle.text.specs.Put.{Put, overwritten}
 use Rattle.message.specs.Refusals.{accepted}
-use Rattle.message.specs.Build.{any_over_size, any_not_good, located_texts, build_refusal, Builds}
-use Rattle.message.specs.declared.build.Built.{Built}
+use Rattle.message.specs.Build.{Built, built as answered, any_over_size, any_not_good, located_texts, build_refusal, Builds}
+use Rattle.std.specs.Prelude.{Result, Ok, Err}
+use Rattle.std.specs.Result.{result_unwrap_or}
+use Rattle.message.specs.declared.build.BuildError.{BuildError}
 use Rattle.text.proofs.Writing as put
 use Rattle.engine.specs.Sizes.{record_size, head_size}
 use Rattle.engine.specs.Records.{Record, flat}
@@ -98,17 +100,16 @@ framing {b} {b'} {b''} {h} {at} {end} k len source to room fits e p q =
     ∙ ap (λ (n : ℕ). head_of to source n ++ m ++ replicate (record_size - head_size - n) 0) (sym long)
     ∙ ap (λ (n : ℕ). framed to source (take len (drop n b))) place)
 
--- one turn of the loop that writes zeros
-pub zero_turn : (buffer after : List ℕ) (at n i next : ℕ) → next ≡ at + i → at + i < length buffer → i < n
-    → after ≡ paste buffer at (replicate n 0) i → set after next 0 ≡ paste buffer at (replicate n 0) (i + 1)
-zero_turn buffer after at n i next e h g p =
-    ap (set after next) (sym (get_or-replicate n i 0 0 g)) ∙ put.turn buffer after (replicate n 0) at i next e h (rw length-replicate g) p
-
 -- a location by another name
 pub located : {service name url url' buffer after : List ℕ} {answer : Built} (text : List ℕ → List ℕ) → url ≡ url'
     → Builds (located_texts service name url) (text url) buffer after answer → Builds (located_texts service name url') (text url') buffer after answer
 located {service} {name} {url} {url'} {buffer} {after} {answer} text e b =
     subst (λ (u : List ℕ). Builds (located_texts service name u) (text u) buffer after answer) e b
+
+-- the length that a build answers; 0 where it is refused
+pub length_built : {n : ℕ} (r : Result ℕ BuildError) → n ≡ result_unwrap_or r 0 → n ≡ (answered r).len
+length_built (Ok m) e = e
+length_built (Err x) e = e
 
 -- ---- what a build function leaves of a record's message in a buffer that has room for any
 module _ (r : Record) {buffer after : List ℕ} {answer : Built} (room : record_size - head_size ≤ length buffer) (builds : Builds (texts_of r) (text_of r) buffer after answer) where
@@ -140,28 +141,28 @@ module _ (r : Record) {buffer after : List ℕ} {answer : Built} (room : record_
 abbrev pub body_at : ℕ → ℕ
 body_at k = record_size * k + head_size
 
-module _ (r : Record) (k : ℕ) (b : List ℕ) {d b' : List ℕ} {answer : Built} (room : record_size * (k + 1) ≤ length b)
-    (builds : Builds (texts_of r) (text_of r) (take (length b - body_at k) (drop (body_at k) b)) d answer)
-    (back : b' ≡ take (body_at k) b ++ (d ++ drop (length b - body_at k) (drop (body_at k) b))) where
-  message : Put b (body_at k) (message_of r) b' (body_at k + answer.len)
+module _ (r : Record) (k : ℕ) (b : List ℕ) {d b' : List ℕ} (answer : Result ℕ BuildError) {n : ℕ} (room : record_size * (k + 1) ≤ length b)
+    (builds : Builds (texts_of r) (text_of r) (take (length b - body_at k) (drop (body_at k) b)) d (answered answer))
+    (back : b' ≡ take (body_at k) b ++ (d ++ drop (length b - body_at k) (drop (body_at k) b))) (long : n ≡ result_unwrap_or answer 0) where
+  message : Put b (body_at k) (message_of r) b' (body_at k + n)
   message =
       let part : record_size - head_size ≤ length (take (length b - body_at k) (drop (body_at k) b)) =
       omega (arith, length-take-le (length b - body_at k) (drop (body_at k) b) (omega (arith, length-drop (body_at k) b)))
       in
-      put.part (body_at k) (omega arith) (built r part builds) back
+      rw (length_built answer long) (put.part (body_at k) (omega arith) (built r part builds) back)
 
-  fits : answer.len ≤ record_size - head_size
+  fits : n ≤ record_size - head_size
   fits = omega (arith, message.place, message-fits r)
 
   -- what the frame asks for
-  pub frame-room : (record_size * (k + 1) ≤ length b') × (answer.len ≤ record_size - head_size)
+  pub frame-room : (record_size * (k + 1) ≤ length b') × (n ≤ record_size - head_size)
   frame-room = (omega (arith, put-size (omega (arith, message.place, fits)) message), fits)
 
-  pub sent : {b'' : List ℕ} → Put b' (record_size * k) (framed (destination_of r) (source_of r) (take answer.len (drop (body_at k) b'))) b'' (record_size * (k + 1))
+  pub sent : {b'' : List ℕ} → Put b' (record_size * k) (framed (destination_of r) (source_of r) (take n (drop (body_at k) b'))) b'' (record_size * (k + 1))
       → Sends b k (r ∷ []) b'' (k + 1)
   unfolding layout flat record_bytes
   sent {b''} p =
-      let long : answer.len ≡ length (message_of r) = omega (arith, message.place) in
+      let long : n ≡ length (message_of r) = omega (arith, message.place) in
       let text = there (omega arith) long message in
       of-put refl room
       (put.text (covers (omega arith) (omega arith) (omega (arith, fits)) message p)

@@ -1,8 +1,7 @@
--- The delay of a reply: how long it is at most, and what the code computes it from.
-use Prim.Native.Nat.{ℕ, ◌+◌, ◌%◌, ◌≤◌, ◌<◌}
-use mathlib.Core.Path.{◌≡◌, ap, sym, ◌∙◌}
+-- The delay of a reply: how long it is at most.
+use Prim.Native.Nat.{ℕ, ◌+◌, ◌≤◌, ◌<◌}
 use native.Mathlib.Omega.{arith}
-use native.Mathlib.Nat.{mod-zero, mod-lt, mod-le}
+use native.Mathlib.Nat.{mod-lt, mod-le}
 use Rattle.engine.specs.Delay.{reply_extra, window, delay}
 
 -- a search with a window is answered within it, and no later than five seconds, but for what every reply waits
@@ -18,12 +17,3 @@ delay-inside seed mx p = omega (arith, mod-lt seed {m = window mx} (omega arith)
 pub delay-seed : (seed mx : ℕ) → delay seed mx ≤ reply_extra + seed
 unfolding delay
 delay-seed seed mx = omega (arith, mod-le seed (window mx))
-
--- the delay by the window that the code has found
-pub delay-none : (seed mx w : ℕ) → w ≡ window mx → w ≡ 0 → reply_extra + seed ≡ delay seed mx
-unfolding delay
-delay-none seed mx w e z = ap (λ (n : ℕ). reply_extra + n) (sym (mod-zero seed) ∙ ap (λ (n : ℕ). seed % n) (sym z ∙ e))
-
-pub delay-some : (seed mx w : ℕ) → w ≡ window mx → reply_extra + seed % w ≡ delay seed mx
-unfolding delay
-delay-some seed mx w e = ap (λ (n : ℕ). reply_extra + seed % n) e

@@ -88,6 +88,10 @@ scheme_split l h =
     let found : drop i l ≡ 58 ∷ 47 ∷ 47 ∷ drop 3 (drop i l) = starts_split (bytes "://") (drop i l) (place-holds (starts_with (bytes "://")) l h) in
     sym (take-append-drop i l) ∙ ap (λ (t : List ℕ). take i l ++ t) (found ∙ ap (λ (t : List ℕ). 58 ∷ 47 ∷ 47 ∷ t) (drop-drop 3 i l))
 
+pub unchanged : (l : List ℕ) (a : ℕ) → length l ≤ scheme_end l → rewritten l a ≡ l
+unfolding rewritten
+unchanged l a h = rw (le-ltb (scheme_end l) (length l) h)
+
 module _ (l : List ℕ) (i : ℕ) (found : i ≡ scheme_end l) where
   pub scheme_room : i < length l → i + 3 ≤ length l
   scheme_room h =
@@ -95,10 +99,6 @@ module _ (l : List ℕ) (i : ℕ) (found : i ≡ scheme_end l) where
       ap length (scheme_split l (omega (arith, found))) ∙ (length-append (take (scheme_end l) l) (58 ∷ 47 ∷ 47 ∷ drop (host_start l) l) ∙ omega arith)
       in
       omega (arith, s, length-take-le (scheme_end l) l (omega (arith, found)), found)
-
-  pub unchanged : (a : ℕ) → length l ≤ i → rewritten l a ≡ l
-  unfolding rewritten
-  unchanged a h = let n : ltb (scheme_end l) (length l) ≡ false = le-ltb (scheme_end l) (length l) (omega (arith, found)) in rw n
 
   pub changed : (a e : ℕ) → i < length l → e ≡ i + 3 + host_length (drop (i + 3) l) → take (i + 3) l ++ dotted a ++ take (length l - e) (drop e l) ≡ rewritten l a
   unfolding rewritten
@@ -145,7 +145,7 @@ pub rewritten-length : (l : List ℕ) (a : ℕ) → length (rewritten l a) ≤ l
 rewritten-length l a = go (ltb (scheme_end l) (length l)) refl
   where
     go : (t : Bool) → ltb (scheme_end l) (length l) ≡ t → length (rewritten l a) ≤ length l + address_text_max
-    go false e = omega (arith, ap length (unchanged l (scheme_end l) refl a (ltb-false _ _ e)))
+    go false e = omega (arith, ap length (unchanged l a (ltb-false _ _ e)))
     go true e =
         let h : scheme_end l < length l = ltb-true _ _ e in
         let room = scheme_room l (scheme_end l) refl h in
@@ -236,7 +236,7 @@ pub rewritten-good : (l : List ℕ) (a : ℕ) → good_text l ≡ true → good_
 rewritten-good l a g = go (ltb (scheme_end l) (length l)) refl
   where
     go : (t : Bool) → ltb (scheme_end l) (length l) ≡ t → good_text (rewritten l a) ≡ true
-    go false e = ap good_text (unchanged l (scheme_end l) refl a (ltb-false _ _ e)) ∙ g
+    go false e = ap good_text (unchanged l a (ltb-false _ _ e)) ∙ g
     go true e = spliced l (ltb-true _ _ e) a g
 
 -- a buffer with room for a location and an address holds what is written over its start

@@ -2,30 +2,30 @@
 -- same whatever the list and the records are.
 use mathlib.Core.Path.{◌≡◌, sym, ◌∙◌, ap}
 use mathlib.Core.List.{List, [], ◌∷◌, map}
-use Prim.Native.Nat.{ℕ, ◌+◌, ◌*◌, ◌≤◌, ◌<◌, min}
+use Prim.Native.Nat.{ℕ, ◌+◌, ◌*◌, ◌≤◌, ◌<◌}
 use native.Mathlib.Omega.{arith}
 use lib.ListN.{length, take, get_or, length-append}
 use Rattle.engine.specs.Sizes.{record_size}
 use Rattle.engine.specs.Records.{Record, flat}
-use Rattle.engine.specs.Layout.{Room, Sends}
+use Rattle.engine.specs.Layout.{Room, Sends, Sent}
 use Rattle.engine.proofs.Flat.{flat-more, flat-fewer, flat-one}
 use Rattle.engine.proofs.Sending as sending
-use Rattle.engine.proofs.Slots.{clamped}
+use lib.Seq.{take_all}
 
--- of the first m elements of l, those before i are done
-pub record Run {A : Type 0} (f : A → List Record) (l : List A) (m : ℕ) (outbox₀ : List ℕ) (k : ℕ) (outbox : List ℕ) (at i : ℕ) : Type 0 where
+-- of the first m elements of l, those before i are done, and have the first k records
+pub record Run {A : Type 0} (f : A → List Record) (l : List A) (m : ℕ) (outbox₀ outbox : List ℕ) (k i : ℕ) : Type 0 where
   pub within : i ≤ m
-  pub sends : Sends outbox₀ k (flat f (take i l)) outbox at
+  pub sends : Sends outbox₀ 0 (flat f (take i l)) outbox k
 
-module _ {A : Type 0} {f : A → List Record} {l : List A} {m : ℕ} {b₀ : List ℕ} {k : ℕ} where
-  pub start : record_size * k ≤ length b₀ → Run f l m b₀ k b₀ k 0
+module _ {A : Type 0} {f : A → List Record} {l : List A} {m : ℕ} {b₀ : List ℕ} where
+  pub start : Run f l m b₀ b₀ 0 0
   unfolding flat
-  start room = record { within = omega arith; sends = sending.none room }
+  start = record { within = omega arith; sends = sending.none (omega arith) }
 
   -- there is room for one more element's records, if there is for all
-  pub more : {b : List ℕ} {at i : ℕ} {rs : List Record} (d : A) → flat f (take m l) ≡ rs → Room b₀ k rs → m ≤ length l → i < m → Run f l m b₀ k b at i
-      → Room b at (f (get_or l i d))
-  more {b} {at} {i} d all room inside h p =
+  more : {b : List ℕ} {k i : ℕ} {rs : List Record} (d : A) → flat f (take m l) ≡ rs → Room b₀ 0 rs → m ≤ length l → i < m → Run f l m b₀ b k i
+      → Room b k (f (get_or l i d))
+  more {b} {k} {i} d all room inside h p =
       omega (
         arith,
         p.sends.number,
@@ -36,27 +36,36 @@ module _ {A : Type 0} {f : A → List Record} {l : List A} {m : ℕ} {b₀ : Lis
         length-append (flat f (take i l)) (f (get_or l i d)),
       )
 
-  pub turn : {b b' : List ℕ} {at at' i : ℕ} (d : A) → m ≤ length l → i < m → Run f l m b₀ k b at i → Sends b at (f (get_or l i d)) b' at'
-      → Run f l m b₀ k b' at' (i + 1)
-  turn {i = i} d inside h p s = record {
+  pub more-rest : {b : List ℕ} {k i : ℕ} {rs : List Record} (d : A) {a : A} → get_or l i d ≡ a → flat f (take m l) ≡ rs → Room b₀ 0 rs → m ≤ length l → i < m → Run f l m b₀ b k i
+      → Room (sending.rest k b) 0 (f a)
+  more-rest {b} {k} d {a} e all room inside h p = let r = more d all room inside h p in sending.rest-room k b (f a) (omega (arith, ap (λ (x : A). length (f x)) e))
+
+  pub turn : {b b' part : List ℕ} {k n i : ℕ} {rs : List Record} (d : A) {a : A} → get_or l i d ≡ a → flat f (take m l) ≡ rs → Room b₀ 0 rs → m ≤ length l → i < m → Run f l m b₀ b k i
+      → Sent (f a) (sending.rest k b) part n → sending.Back b k part b' → Run f l m b₀ b' (k + n) (i + 1)
+  turn {k = k} {i = i} d e all room inside h p s back = record {
     within = omega arith;
-    sends = sending.of (sym (flat-more f l i d (omega arith))) (sending.next p.sends s);
+    sends = sending.of (sym (flat-more f l i d (omega arith))) (sending.next p.sends (sending.part k (more d all room inside h p) (sending.sent-as s (ap f (sym e))) back));
   }
 
-  pub end : {b : List ℕ} {at i : ℕ} {rs : List Record} → flat f (take m l) ≡ rs → m ≤ i → Run f l m b₀ k b at i → Sends b₀ k rs b at
-  end {b} {at} {i} all h p =
-      let e : i ≡ m = omega (arith, p.within) in
-      sending.of (ap (λ (j : ℕ). flat f (take j l)) e ∙ all) p.sends
+  -- the records so far are within the outbox
+  pub turn-fits : {b part : List ℕ} {k n i : ℕ} {rs : List Record} (d : A) {a : A} → get_or l i d ≡ a → flat f (take m l) ≡ rs → Room b₀ 0 rs → m ≤ length l → i < m → Run f l m b₀ b k i
+      → Sent (f a) (sending.rest k b) part n → record_size * (k + n) ≤ length b
+  turn-fits {k = k} d e all room inside h p s = let r = more d all room inside h p in omega (arith, s.number, ap (λ (x : A). length (f x)) e)
 
--- the lists of the loops, counted as the code counts them: by the lesser of the count and the array's length
-module _ {A : Type 0} (l : List A) (n m : ℕ) {c : ℕ} (size : length l ≡ c) (least : m ≡ min n c) where
-  lesser : m ≡ min n (length l)
-  lesser = least ∙ ap (min n) (sym size)
+  pub end : {b : List ℕ} {k i : ℕ} {rs : List Record} → flat f (take m l) ≡ rs → m ≤ i → Run f l m b₀ b k i → Sent rs b₀ b k
+  end {b} {k} {i} all h p =
+      let e : i ≡ m = omega (arith, p.within) in
+      sending.sent (sending.of (ap (λ (j : ℕ). flat f (take j l)) e ∙ all) p.sends)
+
+-- the lists of the loops over a slice
+module _ {A : Type 0} (l : List A) where
+  whole : take (length l) l ≡ l
+  whole = take_all (length l) l (omega arith)
 
   -- one record for each
-  pub each : (g : A → Record) → flat (λ a. g a ∷ []) (take m l) ≡ map g (take n l)
-  each g = flat-one g (take m l) ∙ ap (map g) (clamped l n m lesser)
+  pub each : (g : A → Record) → flat (λ a. g a ∷ []) (take (length l) l) ≡ map g l
+  each g = flat-one g (take (length l) l) ∙ ap (map g) whole
 
   -- several for each
-  pub several : (g : A → List Record) → flat g (take m l) ≡ flat g (take n l)
-  several g = ap (flat g) (clamped l n m lesser)
+  pub several : (g : A → List Record) → flat g (take (length l) l) ≡ flat g l
+  several g = ap (flat g) whole

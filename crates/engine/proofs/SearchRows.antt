@@ -2,28 +2,17 @@
 use mathlib.Core.Path.{◌≡◌, refl, sym, ◌∙◌, ap}
 use mathlib.Core.List.{List, [], ◌∷◌, ◌++◌}
 use Prim.Native.Nat.{ℕ, suc, min, ◌+◌, ◌*◌, ◌-◌, ◌≤◌, ◌<◌}
-use native.Mathlib.Nat.{min-eq_left, min-eq_right}
 use native.Mathlib.Numerals.{add-one}
-use native.Mathlib.Decide.{dec_le}
 use native.Mathlib.Omega.{arith}
-use lib.ListN.{length, take, drop, set, get_or, length-take, length-drop, drop_of_length-le}
+use lib.ListN.{length, take, drop, set, get_or, length-drop, drop_of_length-le}
 use lib.Seq.{take-take, take_all, take_at, drop-drop, drop-cons, get_or-take, get_or-drop}
 use Rattle.text.specs.Put.{overwritten, Put}
 use Rattle.message.specs.Build.{type_max}
 use Rattle.engine.specs.Sizes.{subscriptions_max}
 use Rattle.engine.specs.Held.{Text}
 use Rattle.engine.specs.Arrays.{search_width, search_bytes, search_in, search_rows, search_at, search_count, searches_in}
+use Rattle.engine.proofs.Slots.{cut}
 use Rattle.engine.proofs.TableRows.{lines-length, lines_at, lines-push}
-
--- the first n of the first m are those of the lesser
-cut : (n m : ℕ) (l : List ℕ) → take (min n m) l ≡ take n (take m l)
-cut n m l = go (dec_le n m)
-  where
-    go : Dec (n ≤ m) → take (min n m) l ≡ take n (take m l)
-    go (yes h) = ap (λ (k : ℕ). take k l) (min-eq_left h) ∙ sym (take-take n m l h)
-    go (no h) =
-        ap (λ (k : ℕ). take k l) (min-eq_right {n = m} {m = n} (omega arith))
-        ∙ sym (take_all n (take m l) (omega (arith, length-take m l)))
 
 -- ---- one row
 behind-first : (m : ℕ) (l : List ℕ) → drop 1 (take (suc m) l) ≡ take m (drop 1 l)
@@ -53,10 +42,6 @@ type_put [] service e h p = absurd (omega arith)
 type_put (a ∷ r) service e h p =
     let y = drop (1 + length service) (length service ∷ r) in
     ap search_in p.written ∙ take-take (length service) type_max (service ++ y) h ∙ take_at service y (length service) refl
-
-pub put-length : (r service : List ℕ) → length r ≡ search_width → length service ≤ type_max → 1 + length service ≤ length (set r 0 (length service))
-put-length [] service e h = absurd (omega arith)
-put-length (a ∷ r) service e h = omega arith
 
 -- a row behind the first n
 pub type-pushed : (s d : List ℕ) {service : List ℕ} (n k : ℕ) → n < subscriptions_max → length s ≡ search_bytes → length d ≡ search_width → k ≡ search_width → search_in d ≡ service

@@ -1,7 +1,7 @@
 -- Laws of `Sends`: runs of records written one behind the other are one run, and what is written from record 0 on is `written`.
 use mathlib.Core.Path.{◌≡◌, sym, ◌∙◌, ap, subst}
 use mathlib.Core.List.{List, [], ◌++◌}
-use Prim.Native.Nat.{ℕ, ◌+◌, ◌*◌, ◌≤◌}
+use Prim.Native.Nat.{ℕ, ◌+◌, ◌-◌, ◌*◌, ◌≤◌}
 use native.Mathlib.Omega.{arith}
 use native.Mathlib.Nat.{add-zero, zero-add}
 use lib.ListN.{length, take, drop, length-append, length-drop}
@@ -78,3 +78,54 @@ whole {b} {b'} {k'} {rs} s =
 
 pub sent : {b b' : List ℕ} {n : ℕ} {rs : List Record} → Sends b 0 rs b' n → Sent rs b b' n
 sent {rs = rs} s = record { number = s.number ∙ zero-add (length rs); bytes = whole s }
+
+-- ---- what is written into the part of the outbox from record k on, `&mut outbox[record_size * k..]`, is written into the whole once the part is back
+sent-put : {p d : List ℕ} {n : ℕ} {rs : List Record} → Sent rs p d n → Put p 0 (layout rs) d (record_size * n)
+unfolding overwritten written
+sent-put {p} {rs = rs} s = record {
+  place = omega (arith, s.number, layout-length rs);
+  written = s.bytes ∙ ap (λ (n : ℕ). layout rs ++ drop n p) (sym (zero-add (length (layout rs))));
+}
+
+abbrev pub rest : ℕ → List ℕ → List ℕ
+rest k b = take (length b - record_size * k) (drop (record_size * k) b)
+
+-- the outbox b with d in the place of that part
+abbrev pub Back : List ℕ → ℕ → List ℕ → List ℕ → Type 0
+Back b k d b' = b' ≡ take (record_size * k) b ++ (d ++ drop (length b - record_size * k) (drop (record_size * k) b))
+
+pub rest-room : (k : ℕ) (b : List ℕ) (rs : List Record) → Room b k rs → Room (rest k b) 0 rs
+rest-room k b rs room = omega (arith, length-take-le (length b - record_size * k) (drop (record_size * k) b) (omega (arith, length-drop (record_size * k) b)))
+
+pub part : {b b' d : List ℕ} (k : ℕ) {n : ℕ} {rs : List Record} → Room b k rs → Sent rs (rest k b) d n → Back b k d b'
+    → Sends b k rs b' (k + n)
+part {b} {b'} {d} k {n} {rs} room s e =
+    let end : record_size * k + record_size * n ≡ record_size * (k + n) = omega arith in
+    of-put (ap (λ (m : ℕ). k + m) s.number) (omega (arith, s.number)) (put.to (put.part (record_size * k) (omega (arith, room)) (sent-put s) e) end)
+
+-- from the first record on, and the other way round
+pub of-sent : {b b' : List ℕ} {n : ℕ} {rs : List Record} → Room b 0 rs → Sent rs b b' n → Sends b 0 rs b' n
+of-sent {rs = rs} room s = of-put (omega (arith, s.number)) (omega (arith, s.number)) (sent-put s)
+
+-- one run, and another in the part behind it
+pub both : {b b' b'' d : List ℕ} {k n : ℕ} {rs ss : List Record} → Room b 0 (rs ++ ss) → Sent rs b b' k → Sent ss (rest k b') d n → Back b' k d b''
+    → Sent (rs ++ ss) b b'' (k + n)
+both {b} {k = k} {rs = rs} {ss = ss} room s t e =
+    let first = of-sent (room-first b 0 rs ss room) s in
+    sent (next first (part k (room_next ss room first) t e))
+
+pub both-fit : {b b' : List ℕ} {k : ℕ} {rs : List Record} (ss : List Record) → Room b 0 (rs ++ ss) → Sent rs b b' k → record_size * k ≤ length b
+both-fit {rs = rs} ss room s = omega (arith, length-append rs ss, s.number)
+
+pub both-fits : {b b' p d : List ℕ} {k n : ℕ} {rs ss : List Record} → Room b 0 (rs ++ ss) → Sent rs b b' k → Sent ss p d n → record_size * (k + n) ≤ length b
+both-fits {rs = rs} {ss = ss} room s t = omega (arith, length-append rs ss, s.number, t.number)
+
+pub both-room : {b b' : List ℕ} {k : ℕ} {rs : List Record} (ss : List Record) → Room b 0 (rs ++ ss) → Sent rs b b' k → Room (rest k b') 0 ss
+both-room {b} {b'} {k} {rs} ss room s = rest-room k b' ss (room_next ss room (of-sent (room-first b 0 rs ss room) s))
+
+-- the same records by another name, and none
+pub sent-as : {b b' : List ℕ} {n : ℕ} {rs ss : List Record} → Sent rs b b' n → rs ≡ ss → Sent ss b b' n
+sent-as {b} {b'} {n} s e = subst (λ (x : List Record). Sent x b b' n) e s
+
+pub sent-nothing : (b : List ℕ) → Sent [] b b 0
+sent-nothing b = sent (none (omega arith))

@@ -7,7 +7,9 @@ use native.Mathlib.Numerals.{add-one}
 use native.Mathlib.Omega.{arith}
 use lib.ListN.{length, take, drop, set, get_or, length-map, drop_of_length-le}
 use lib.Seq.{take-suc, drop-cons, set_at, get_or_at, set-get_or, take_all, length-take-le}
+use Rattle.text.specs.Bytes.{equal}
 use Rattle.engine.specs.Delay.{delay}
+use Rattle.engine.specs.Target.{ssdp_all}
 use Rattle.engine.specs.Held.{Text, Advertisement}
 use Rattle.engine.specs.Calls.{Query}
 use Rattle.engine.specs.Records.{is_due}
@@ -15,13 +17,12 @@ use Rattle.engine.specs.Replies as replies
 use Rattle.engine.specs.Replies.{sum_of, waits, sooner, soonest, is_none, answer_type, asked_need, asked_answer, hits, asked, matched_by, joined_by, served_need, served, is_alone, is_group, alone_at, group_at, result}
 use Rattle.engine.specs.Passes.{asked_by}
 use Rattle.engine.specs.Arrays.{entry_in, reply_at, entry_at, name_count, names_in}
-use Rattle.engine.specs.Changes.{change_at, blank, with_active, PassOne, PassAll, Opening, AskedBy}
+use Rattle.engine.specs.Changes.{change_at, blank, with_active, PassOne, PassAll, AskedBy}
 use Rattle.engine.specs.declared.advertisement.Endpoint.{Endpoint}
 use Rattle.engine.specs.declared.advertisement.ResponseNeeded.{ResponseNeeded}
 use Rattle.engine.specs.declared.advertisement.ResponseNeeded.TheVariants.{None, Multicast, Unicast}
-use Rattle.engine.specs.declared.names.ActiveAdvertisement.{ActiveAdvertisement}
 use Rattle.engine.proofs.Slots.{map-append}
-use Rattle.engine.proofs.Passes.{Summing, sum_start, sum_turn, sum_over, soonest-turn, soonest-over}
+use Rattle.engine.proofs.Passes.{Summing, sum_turn, sum_over, soonest-turn, soonest-over}
 use Rattle.engine.proofs.Waits.{asked-parts}
 use Rattle.engine.proofs.NameRows.{next-is, none_left}
 
@@ -35,9 +36,6 @@ module _ (i : ℕ) (ns ts : List ℕ) where
 pub record Waiting (time : ℕ) (l : List Advertisement) (i sum poll : ℕ) : Type 0 where
   pub many : Summing (λ a. waits a.needed) l i (drop i l) sum
   pub soon : soonest time l ≡ soonest poll (drop i l)
-
-pub waiting-start : (time : ℕ) (l : List Advertisement) → Waiting time l 0 0 time
-waiting-start time l = record { many = sum_start (λ a. waits a.needed) l; soon = refl }
 
 module _ (time : ℕ) (head ns ts : List ℕ) where
   pub waiting-turn : {i sum poll one poll' : ℕ} {n : ResponseNeeded} → i < name_count head → n ≡ reply_at i ns → (one ≡ waits n) × (one ≤ 1) → poll' ≡ sooner poll n
@@ -61,9 +59,6 @@ module _ (time : ℕ) (head ns ts : List ℕ) where
 pub record Due (time : ℕ) (l : List Advertisement) (i alone group : ℕ) : Type 0 where
   pub first : Summing (alone_at time) l i (drop i l) alone
   pub second : Summing (group_at time) l i (drop i l) group
-
-pub due-start : (time : ℕ) (l : List Advertisement) → Due time l 0 0 0
-due-start time l = record { first = sum_start (alone_at time) l; second = sum_start (group_at time) l }
 
 module _ (time : ℕ) (head ns ts : List ℕ) where
   pub due-turn : {i alone group x y : ℕ} {n : ResponseNeeded} → i < name_count head → n ≡ reply_at i ns
@@ -94,9 +89,6 @@ module _ {A : Type 0} (f : A → A) (g h : A → ℕ) (d : A) (l : List A) where
     pub first : sum_of g l ≡ m + sum_of g (drop i l)
     pub second : sum_of h l ≡ n + sum_of h (drop i l)
     pub few : (m ≤ i) × (n ≤ i)
-
-  pub pass-start : Passing 0 l 0 0
-  pass-start = record { done = refl; first = omega arith; second = omega arith; few = (omega arith, omega arith) }
 
   module _ (i : ℕ) (lt : i < length l) where
     here : passed i ≡ map f (take i l) ++ (get_or l i d ∷ drop (suc i) l)
@@ -171,12 +163,12 @@ module _ (due : ℕ) (q : Query) (service answer : Text) where
   one-waits (Unicast d s r) e = (refl, refl)
 
 -- the type that an opened reply answers in
-module _ {all : Bool} (i : ℕ) (service target : Text) (needed : ResponseNeeded) (l : List Advertisement) where
-  pub own_type : {n : ResponseNeeded} {t : Text} → n ≡ needed → t ≡ service → all ≡ true → change_at blank i (with_active n t) l ≡ change_at blank i (with_active needed (cond all service target)) l
-  own_type p q e = rw (p, q, e)
+module _ {b : Bool} (service target : Text) (asks : b ≡ equal target ssdp_all) where
+  pub own_type : b ≡ true → service ≡ answer_type target service
+  own_type e = rw (sym asks ∙ e)
 
-  pub target-type : all ≡ false → change_at blank i (with_active needed target) l ≡ change_at blank i (with_active needed (cond all service target)) l
-  target-type e = rw e
+  pub target-type : b ≡ false → target ≡ answer_type target service
+  target-type e = rw (sym asks ∙ e)
 
 -- ---- one entry: a search
 module _ (due : ℕ) (q : Query) (a : Advertisement) where
@@ -201,13 +193,12 @@ module _ (due : ℕ) (q : Query) (a : Advertisement) where
           }
 
       -- no reply waits: what the search opens is stored
-      pub ask-opens : {l' : List Advertisement} {m : ResponseNeeded} {all : Bool} (x : ActiveAdvertisement) → Opening q.target due q.sender q.receiver all x
-          → m ≡ a.needed → is_none m ≡ true
-          → l' ≡ change_at blank i (with_active x.response_needed (cond all a.service (take x.answer_len x.answer))) l
+      pub ask-opens : {l' : List Advertisement} {m : ResponseNeeded} {t : Text} → m ≡ a.needed → is_none m ≡ true → t ≡ answer_type q.target a.service
+          → l' ≡ change_at blank i (with_active (Unicast due q.sender q.receiver) t) l
           → PassOne (asked due q) (matched_by q) (joined_by q) blank i l l' 1 0
-      ask-opens x o e z r =
+      ask-opens e z t r =
           let k = none-waits due q a.service a.answer a.needed (ap is_none (sym e) ∙ z) in
-          ask-hit (o.reply ∙ k.reply) ((λ j. cond (o.every j) a.service (o.answer j)) ∙ k.type) r k.none (omega arith)
+          ask-hit k.reply (t ∙ k.type) r k.none (omega arith)
 
       -- one waits: the joined reply is stored, and the answer type stays
       pub ask-joins : {l' : List Advertisement} {m n : ResponseNeeded} → m ≡ a.needed → is_none m ≡ false → n ≡ asked_need true due q m

@@ -5,10 +5,10 @@ use Prim.Native.Nat.{ℕ, zero, suc, ◌+◌, ◌*◌, ◌-◌, ◌≤◌, ◌<�
 use native.Mathlib.Nat.{add-zero, add-suc, zero-add, mul-zero, mul-suc, mul-add}
 use native.Mathlib.Omega.{arith}
 use lib.ListN.{length, take, drop, set, get_or, length-drop}
-use lib.Seq.{take-add, drop-drop, take_at, drop_at, take_all, take-take, length-take-le, set_split, take-append-le, slice}
+use lib.Seq.{take-add, drop-drop, take_at, drop_at, take_all, take-take, length-take-le, set_split, take-append-le}
+use Rattle.std.specs.List.{copy_within}
 use Rattle.engine.specs.Rows.{row, rows, lines}
 use Rattle.engine.specs.Slots.{insert_at, remove_at}
-use Rattle.engine.specs.Shifts.{moved_up, moved_down}
 
 -- the first row off a list of rows
 module _ {A : Type 0} (v i : ℕ) (l : List A) where
@@ -104,35 +104,33 @@ module _ {A B C : Type 0} (v w : ℕ) (f : List A → List B → C) where
 
 -- ---- a list after a row was made room for and filled, or after a gap was closed
 module _ {A : Type 0} (v : ℕ) (l : List A) where
-  slice_is : (f m t : ℕ) → t ≡ f + m → t ≤ length l → slice f t l ≡ take m (drop f l)
-  slice_is f m t e h =
-      ap (λ (k : ℕ). drop f (take k l)) e ∙ ap (drop f) (take-add f m l) ∙ drop_at (take f l) (take m (drop f l)) f (length-take-le f l (omega arith))
-
   module _ (n k i : ℕ) (split : n ≡ k + i) where
     whole : v * n ≡ v * i + v * k
     whole = let e : v * k + v * i ≡ v * i + v * k = omega arith in ap (λ (m : ℕ). v * m) split ∙ mul-add v k i ∙ e
 
-    pub filled : (r : List A) {u : List A} → v * n + v ≤ length l → u ≡ moved_up (v * i) (v * n) v l
+    pub filled : (r : List A) {u : List A} → v * n + v ≤ length l → u ≡ copy_within l (v * i) (v * n) (v * i + v)
         → take (v * i) u ++ (r ++ drop v (drop (v * i) u)) ≡ take (v * i) l ++ (r ++ (take (v * k) (drop (v * i) l) ++ drop (v * n + v) l))
-    unfolding moved_up
     filled r {u} g e =
-        let x = slice (v * i) (v * n) l ++ drop (v * n + v) l in
+        let x = take (v * n - v * i) (drop (v * i) l) ++ drop (v * i + v + (v * n - v * i)) l in
         let h = take (v * i + v) l in
+        let e : u ≡ h ++ x = e ∙ append_assoc h (take (v * n - v * i) (drop (v * i) l)) (drop (v * i + v + (v * n - v * i)) l) in
         let s : length h ≡ v * i + v = length-take-le (v * i + v) l (omega (arith, whole)) in
         let a : take (v * i) u ≡ take (v * i) l =
         ap (take (v * i)) e ∙ take-append-le (v * i) h x (omega arith) ∙ take-take (v * i) (v * i + v) l (omega arith)
         in
         let b : drop v (drop (v * i) u) ≡ x = drop-drop v (v * i) u ∙ ap (drop (v * i + v)) e ∙ drop_at h x (v * i + v) s in
-        (λ j. a j ++ (r ++ b j))
-        ∙ ap (λ (t : List A). take (v * i) l ++ (r ++ (t ++ drop (v * n + v) l))) (slice_is (v * i) (v * k) (v * n) whole (omega arith))
+        let many : v * n - v * i ≡ v * k = omega (arith, whole) in
+        let end : v * i + v + (v * n - v * i) ≡ v * n + v = omega (arith, whole) in
+        λ j. a j ++ (r ++ (b ∙ λ p. take (many p) (drop (v * i) l) ++ drop (end p) l) j)
 
-    pub closed : {u : List A} → v * n + v ≤ length l → u ≡ moved_down (v * i) (v * n) v l
+    pub closed : {u : List A} → v * n + v ≤ length l → u ≡ copy_within l (v * i + v) (v * suc n) (v * i)
         → u ≡ take (v * i) l ++ (take (v * k) (drop (v * suc i) l) ++ drop (v * n) l)
-    unfolding moved_down
     closed {u} g e =
+        let many : v * suc n - (v * i + v) ≡ v * k = omega (arith, whole, mul-suc v n) in
+        let end : v * i + (v * suc n - (v * i + v)) ≡ v * n = omega (arith, whole, mul-suc v n) in
         e
-        ∙ ap (λ (t : List A). take (v * i) l ++ (t ++ drop (v * n) l))
-        (slice_is (v * i + v) (v * k) (v * n + v) (omega (arith, whole)) g ∙ ap (λ (m : ℕ). take (v * k) (drop m l)) (sym (mul-suc v i)))
+        ∙ append_assoc (take (v * i) l) (take (v * suc n - (v * i + v)) (drop (v * i + v) l)) (drop (v * i + (v * suc n - (v * i + v))) l)
+        ∙ λ p. take (v * i) l ++ (take (many p) (drop (sym (mul-suc v i) p) l) ++ drop (end p) l)
 
 module _ {A B C : Type 0} (v w : ℕ) (f : List A → List B → C) (n k i : ℕ) (ns : List A) (ts : List B) where
   first-row : (r x : List A) (q y : List B) → length r ≡ v → length q ≡ w → rows v w f (suc k) (r ++ x) (q ++ y) ≡ f r q ∷ rows v w f k x y
@@ -196,21 +194,21 @@ module _ {A C : Type 0} (w : ℕ) (f : List A → C) where
       ap (λ (z : List A). lines w f n z) p ∙ rows-replace w w (λ r q. f r) n k i l l r r s g g e e
 
   -- a row put in before the others from i on: they were moved up, and row i was filled
-  pub lines-insert : (n i : ℕ) (l r : List A) {u l' : List A} → i ≤ n → w * n + w ≤ length l → length r ≡ w → u ≡ moved_up (w * i) (w * n) w l
+  pub lines-insert : (n i : ℕ) (l r : List A) {u l' : List A} → i ≤ n → w * n + w ≤ length l → length r ≡ w → u ≡ copy_within l (w * i) (w * n) (w * i + w)
       → l' ≡ take (w * i) u ++ (r ++ drop w (drop (w * i) u)) → lines w f (suc n) l' ≡ insert_at i (f r) (lines w f n l)
   lines-insert n i l r {u} {l'} h g e m p =
       let s : n ≡ (n - i) + i = omega arith in
       let c : l' ≡ take (w * i) l ++ (r ++ (take (w * (n - i)) (drop (w * i) l) ++ drop (w * n + w) l)) = p ∙ filled w l n (n - i) i s r g m in
       rows-insert w w (λ r q. f r) n (n - i) i l l r _ r _ s (omega arith) (omega arith) e e c c
 
-  pub lines-remove : (n i : ℕ) (l : List A) {l' : List A} → i < n → w * n ≤ length l → l' ≡ moved_down (w * i) (w * (n - 1)) w l
+  pub lines-remove : (n i : ℕ) (l : List A) {l' : List A} → i < n → w * n ≤ length l → l' ≡ copy_within l (w * i + w) (w * n) (w * i)
       → lines w f (n - 1) l' ≡ remove_at i (lines w f n l)
   lines-remove n i l {l'} h g m =
       let k = n - 1 in
       let s : k ≡ (k - i) + i = omega arith in
       let t : suc k ≡ n = omega arith in
       let b : w * k + w ≤ length l = omega (arith, mul-suc w k, ap (λ (x : ℕ). w * x) t) in
-      let c = closed w l k (k - i) i s b m in
+      let c = closed w l k (k - i) i s b (m ∙ ap (λ (x : ℕ). copy_within l (w * i + w) (w * x) (w * i)) (sym t)) in
       let z : w * suc k ≤ length l = omega (arith, ap (λ (x : ℕ). w * x) t) in
       rows-remove w w (λ r q. f r) k (k - i) i l l _ _ s z z c c ∙ ap (λ (x : ℕ). remove_at i (lines w f x l)) t
 

@@ -2,17 +2,18 @@
 use mathlib.Core.Path.{◌≡◌, sym, ◌∙◌, ap}
 use mathlib.Core.Bool.{Bool, true, false, cond}
 use mathlib.Core.List.{List, [], ◌∷◌, map}
-use Prim.Native.Nat.{ℕ, ◌+◌, ◌≤◌, ◌<◌}
+use Prim.Native.Nat.{ℕ, ◌+◌, ◌*◌, ◌≤◌, ◌<◌}
 use native.Mathlib.Omega.{arith}
 use lib.ListN.{length, take, get_or}
 use lib.Seq.{take_all}
+use Rattle.engine.specs.Sizes.{record_size}
 use Rattle.engine.specs.Held.{Text, Advertisement}
 use Rattle.engine.specs.Records.{Record, SearchFrom, flat, search_on, notify, notify_on, is_due, reply_records, due_records}
-use Rattle.engine.specs.Layout.{Room, Sends}
+use Rattle.engine.specs.Layout.{Room, Sent}
 use Rattle.engine.specs.Arrays.{search_width, search_in, search_at, search_count, searches_in}
 use Rattle.engine.specs.declared.advertisement.ResponseNeeded.{ResponseNeeded}
 use Rattle.engine.proofs.Flat.{flat-one}
-use Rattle.engine.proofs.Sending as sending
+use Rattle.engine.proofs.Sending.{rest, Back}
 use Rattle.engine.proofs.Runs as runs
 use Rattle.engine.proofs.Runs.{Run}
 use Rattle.engine.proofs.TableRows.{lines-length, lines_at}
@@ -21,16 +22,19 @@ use Rattle.engine.proofs.TableRows.{lines-length, lines_at}
 all-rows : {A : Type 0} (f : A → List Record) (l : List A) (m : ℕ) → length l ≡ m → flat f (take m l) ≡ flat f l
 all-rows f l m size = ap (flat f) (take_all m l (omega arith))
 
-module _ {A : Type 0} {f : A → List Record} {l : List A} {m : ℕ} {b₀ : List ℕ} {k : ℕ} (size : length l ≡ m) where
-  pub row_room : {b : List ℕ} {at i : ℕ} (d : A) {a : A} → get_or l i d ≡ a → Room b₀ k (flat f l) → i < m → Run f l m b₀ k b at i → Room b at (f a)
-  row_room {b} {at} {i} d e room h p =
-      let r : Room b at (f (get_or l i d)) = runs.more d (all-rows f l m size) room (omega arith) h p in
-      omega (arith, ap (λ (x : A). length (f x)) e)
+module _ {A : Type 0} {f : A → List Record} {l : List A} {m : ℕ} {b₀ : List ℕ} (size : length l ≡ m) where
+  pub row-rest : {b : List ℕ} {k i : ℕ} (d : A) {a : A} → get_or l i d ≡ a → Room b₀ 0 (flat f l) → i < m → Run f l m b₀ b k i → Room (rest k b) 0 (f a)
+  row-rest d e room h p = runs.more-rest d e (all-rows f l m size) room (omega arith) h p
 
-  pub row-turn : {b b' : List ℕ} {at at' i : ℕ} (d : A) {a : A} → get_or l i d ≡ a → i < m → Run f l m b₀ k b at i → Sends b at (f a) b' at' → Run f l m b₀ k b' at' (i + 1)
-  row-turn d e h p s = runs.turn d (omega arith) h p (sending.of (ap f (sym e)) s)
+  pub row-turn : {b b' part : List ℕ} {k n i : ℕ} (d : A) {a : A} → get_or l i d ≡ a → Room b₀ 0 (flat f l) → i < m → Run f l m b₀ b k i
+      → Sent (f a) (rest k b) part n → Back b k part b' → Run f l m b₀ b' (k + n) (i + 1)
+  row-turn d e room h p s back = runs.turn d e (all-rows f l m size) room (omega arith) h p s back
 
-  pub row-end : {b : List ℕ} {at i : ℕ} → m ≤ i → Run f l m b₀ k b at i → Sends b₀ k (flat f l) b at
+  pub row-fits : {b part : List ℕ} {k n i : ℕ} (d : A) {a : A} → get_or l i d ≡ a → Room b₀ 0 (flat f l) → i < m → Run f l m b₀ b k i → Sent (f a) (rest k b) part n
+      → record_size * (k + n) ≤ length b
+  row-fits d e room h p s = runs.turn-fits d e (all-rows f l m size) room (omega arith) h p s
+
+  pub row-end : {b : List ℕ} {k i : ℕ} → m ≤ i → Run f l m b₀ b k i → Sent (flat f l) b₀ b k
   row-end h p = runs.end (all-rows f l m size) h p
 
 -- ---- the subscriptions as a list
@@ -43,12 +47,12 @@ unfolding searches_in
 search_is head ss i h = lines_at search_width search_in (search_count head) i ss [] h
 
 -- ---- from one address alone
-module _ (source : ℕ) {up : List ℕ} (e : up ≡ source ∷ []) where
-  pub searches-from : (ts : List Text) → flat (search_on up) ts ≡ map (SearchFrom source) ts
-  searches-from ts = ap (λ (u : List ℕ). flat (search_on u) ts) e ∙ flat-one (SearchFrom source) ts
+module _ (source : ℕ) where
+  pub searches-from : (ts : List Text) → flat (search_on (source ∷ [])) ts ≡ map (SearchFrom source) ts
+  searches-from ts = flat-one (SearchFrom source) ts
 
-  pub names-from : (as' : List Advertisement) → flat (notify_on up) as' ≡ map (λ a. notify a source) as'
-  names-from as' = ap (λ (u : List ℕ). flat (notify_on u) as') e ∙ flat-one (λ a. notify a source) as'
+  pub names-from : (as' : List Advertisement) → flat (notify_on (source ∷ [])) as' ≡ map (λ a. notify a source) as'
+  names-from as' = flat-one (λ a. notify a source) as'
 
 -- ---- a reply that is due, and one that is not
 module _ (time : ℕ) (up : List ℕ) (a : Advertisement) {n : ResponseNeeded} (e : n ≡ a.needed) where

@@ -8,6 +8,7 @@ use native.Mathlib.Nat.{zero-lt-suc}
 use native.Mathlib.Omega.{arith}
 use lib.ListN.{length, take, drop, set, get_or}
 use Rattle.engine.specs.Table.{Key, rank, known, entry_of, enter, leave}
+use Rattle.std.proofs.Common.{Ok, Err}
 use Rattle.engine.specs.Spot.{Spotted}
 
 -- by a test
@@ -80,9 +81,6 @@ module _ {K A : Type 0} (k : Key K A) (x : K) (l : List A) where
     pub at : rank k x l ≡ i + rank k x rest
     pub known : known k x l ≡ known k x rest
 
-  pub look-start : Looking 0 l
-  look-start = record { at = omega arith; known = refl }
-
   pub look-turn : {i : ℕ} {rest more : List A} {a : A} → rest ≡ a ∷ more → k.below (k.of a) x ≡ true → Looking i rest → Looking (i + 1) more
   unfolding rank known
   look-turn {i} {rest} {more} e f h =
@@ -90,18 +88,24 @@ module _ {K A : Type 0} (k : Key K A) (x : K) (l : List A) where
       record { at = omega (arith, h.at); known = h.known ∙ rw (e, f) }
 
   -- the end of the table, or an entry that is not below, ends it
-  pub look-over : {i : ℕ} {rest : List A} → rest ≡ [] → Looking i rest → Spotted k x l (record { at = i; known = false })
+  pub look-over : {i : ℕ} {rest : List A} → rest ≡ [] → Looking i rest → Spotted k x l (Err i)
   unfolding rank known
   look-over {i} {rest} e h =
       let z : rank k x rest ≡ 0 = rw e in
       record { at = omega (arith, h.at); known = sym (h.known ∙ rw e) }
 
-  pub look_stop : {i : ℕ} {rest more : List A} {a : A} → rest ≡ a ∷ more → k.below (k.of a) x ≡ false → Looking i rest
-      → Spotted k x l (record { at = i; known = k.same (k.of a) x })
-  unfolding rank known
-  look_stop {i} {rest} e f h =
-      let z : rank k x rest ≡ 0 = rw (e, f) in
-      record { at = omega (arith, h.at); known = sym (h.known ∙ rw (e, f)) }
+  module _ {i : ℕ} {rest more : List A} {a : A} (e : rest ≡ a ∷ more) (f : k.below (k.of a) x ≡ false) (h : Looking i rest) where
+    stops : i ≡ rank k x l
+    unfolding rank
+    stops = let z : rank k x rest ≡ 0 = rw (e, f) in omega (arith, h.at)
+
+    pub look-there : k.same (k.of a) x ≡ true → Spotted k x l (Ok i)
+    unfolding known
+    look-there g = record { at = stops; known = sym (h.known ∙ rw (e, f, g)) }
+
+    pub look-before : k.same (k.of a) x ≡ false → Spotted k x l (Err i)
+    unfolding known
+    look-before g = record { at = stops; known = sym (h.known ∙ rw (e, f, g)) }
 
 module _ {K A : Type 0} (k : Key K A) (b : A) where
   pub enter-known : (l : List A) → known k (k.of b) l ≡ true → enter k b l ≡ set l (rank k (k.of b) l) b

@@ -1,18 +1,15 @@
--- Laws of the refresh timer's definitions: what a period is at most, what a step keeps, and the cases of the seed's byte.
-use Prim.Native.Nat.{ℕ, ◌+◌, ◌*◌, ◌/◌, ◌%◌, ◌^◌, ◌≤◌, ◌<◌}
-use mathlib.Core.Path.{◌≡◌, refl, ap, sym, subst}
+-- Laws of the refresh timer's definitions: what a period is at most, what a step keeps, and what an answer tells of its time.
+use Prim.Native.Nat.{ℕ, ◌+◌, ◌*◌, ◌%◌, ◌≤◌, ◌<◌}
+use mathlib.Core.Path.{◌≡◌, refl, sym, subst}
 use mathlib.Core.Bool.{Bool, true, false, cond}
 use native.Mathlib.Omega.{arith}
-use borrow.Author.Tests.{eq-eqb, ne_eqb, lt-ltb, le-ltb, le-leb, lt-leb, ltb-true, ltb-false}
+use borrow.Author.Tests.{eq-eqb, ne_eqb, lt-ltb, le-ltb, le-leb, lt-leb, leb-true, leb-false, ltb-true, ltb-false}
 use lib.Dec.{eqb, leb, ltb}
+use Rattle.std.specs.Prelude.{Result, Ok, Err}
+use Rattle.engine.specs.declared.refresh_timer.Late.{Late}
 use Rattle.engine.specs.declared.refresh_timer.RefreshTimer.{RefreshTimer}
 use Rattle.engine.specs.Sizes.{time_max}
-use Rattle.engine.specs.RefreshTimer.{time_refusal, seed_byte, period, timer_new, timer_reset, timer_step, answer_for}
-
--- the byte in a phase whose number modulo 4 is known
-pub byte_of : (seed phase k : ℕ) → phase % 4 ≡ k → seed_byte seed phase ≡ seed / 256 ^ k % 256
-unfolding seed_byte
-byte_of seed phase k e = ap (λ (m : ℕ). seed / 256 ^ m % 256) e
+use Rattle.engine.specs.RefreshTimer.{time_refusal, seed_byte, period, timer_new, timer_reset, timer_step, answer_for, timer_of, update_answer}
 
 either-base : (b : Bool) → cond b 800000 6000 ≤ 800000
 either-base true = omega arith
@@ -50,27 +47,29 @@ stepped_to t time instant p e i q =
     let m : (t.phase % 4 + 1) % 4 ≡ (t.phase + 1) % 4 = omega arith in
     rw (le-ltb _ _ e, i, q, m)
 
--- the answer where the timers are known by equations
-pub answer-same : (time : ℕ) {a a' b b' : RefreshTimer} → a ≡ a' → b ≡ b' → answer_for time a b ≡ answer_for time a' b'
-answer-same time p q = cc
-
--- the timer in the answer, where the time is refused and where it is not
-pub timer-refused : (time : ℕ) (a b : RefreshTimer) → time_max < time → (answer_for time a b).timer ≡ a
+-- what an answer tells of its time, and the timer in it
+pub timely : (time : ℕ) (a b t : RefreshTimer) → answer_for time a b ≡ Ok t → (time ≤ time_max) × (t ≡ b)
 unfolding answer_for
-timer-refused time a b e = rw (lt-leb _ _ e)
+timely time a b t = go (leb time time_max) refl
+  where
+    go : (l : Bool) → leb time time_max ≡ l → cond {A = Result RefreshTimer Late} l (Ok b) (Err (record { timer = a })) ≡ Ok t → (time ≤ time_max) × (t ≡ b)
+    go true e h = (leb-true time time_max e, cc)
+    go false e h = cc
 
-pub timer-accepted : (time : ℕ) (a b : RefreshTimer) → time ≤ time_max → (answer_for time a b).timer ≡ b
+pub late : (time : ℕ) (a b : RefreshTimer) (l : Late) → answer_for time a b ≡ Err l → (time_max < time) × (l.timer ≡ a)
 unfolding answer_for
-timer-accepted time a b e = rw (le-leb _ _ e)
+late time a b l = go (leb time time_max) refl
+  where
+    go : (t : Bool) → leb time time_max ≡ t → cond {A = Result RefreshTimer Late} t (Ok b) (Err (record { timer = a })) ≡ Err l → (time_max < time) × (l.timer ≡ a)
+    go true e h = cc
+    go false e h = (leb-false time time_max e, cc)
 
-cond-twice : {A : Type 0} (t : Bool) (a b : A) → cond t (cond t b a) a ≡ cond t b a
-cond-twice true a b = refl
-cond-twice false a b = refl
+-- the number of a time
+pub timely-number : (time : ℕ) → time ≤ time_max → time_refusal time ≡ 0
+timely-number time h = rw (le-leb _ _ h)
 
--- the test of the time a second time changes nothing
-pub answer-twice : (time : ℕ) (a b : RefreshTimer) → answer_for time a (answer_for time a b).timer ≡ answer_for time a b
-unfolding answer_for
-answer-twice time a b = ap (λ (t : RefreshTimer). record { refusal = time_refusal time; timer = t }) (cond-twice (leb time time_max) a b)
+pub late-number : (time : ℕ) → time_max < time → time_refusal time ≡ 1
+late-number time h = rw (lt-leb _ _ h)
 
 -- what holds of every timer that comes from the calls: a phase of four, and an instant that one period can follow in 64 bits
 pub record TimerBounds (t : RefreshTimer) : Type 0 where
@@ -94,3 +93,8 @@ step-bounds t time h r = go (ltb time t.next_salvo) refl
         let due : t.next_salvo ≤ time = ltb-false _ _ e in
         subst TimerBounds (sym (step-due t time due))
         (record { phase = omega arith; salvo = omega (arith, period-max t.random_seed t.phase) })
+
+-- a time that a call may bear takes the step
+pub in_time : (t : RefreshTimer) (time : ℕ) → time ≤ time_max → timer_of (update_answer t time) ≡ timer_step t time
+unfolding answer_for
+in_time t time h = rw (le-leb time time_max h)

@@ -5,7 +5,7 @@
 --   searches  a row of bytes for each subscription: the length of its type, the type
 --   numbers   a row for each name: lengths of name, type, location and answer type; reply (0 none, 1 to the group, else to a lone searcher), instant, sender, port, receiver
 --   texts     a row of bytes for each name: name, type, location, answer type
-use Rattle.std.specs.Prelude.{ℕ, min, ◌+◌, ◌*◌, ◌%◌, ◌≡◌, cond, not, List, map, eqb, length, take, drop, get_or}
+use Rattle.std.specs.Prelude.{ℕ, min, ◌+◌, ◌*◌, ◌%◌, cond, not, List, map, eqb, take, drop, get_or}
 use Rattle.message.specs.Build.{type_max, name_max}
 use Rattle.engine.specs.Sizes.{advertisements_max, subscriptions_max, links_max, addresses_max, location_max}
 use Rattle.engine.specs.Rows.{row, rows, lines}
@@ -161,16 +161,6 @@ name_count head = min (get_or head names_place 0) advertisements_max
 
 unfoldable pub names_in : List ℕ → List ℕ → List ℕ → List Advertisement
 names_in head numbers texts = entries (name_count head) numbers texts
-
--- what functions below the calls ask of the arrays that are lent to them: their sizes
-abbrev pub LinkArrays : List ℕ → List ℕ → Type 0
-LinkArrays head links = (length head ≡ head_places) × (length links ≡ link_numbers)
-
-abbrev pub SearchArrays : List ℕ → List ℕ → Type 0
-SearchArrays head searches = (length head ≡ head_places) × (length searches ≡ search_bytes)
-
-abbrev pub NameArrays : List ℕ → List ℕ → Type 0
-NameArrays numbers texts = (length numbers ≡ numbers_size) × (length texts ≡ texts_size)
 
 -- ---- all five
 pub record Engine : Type 0 where

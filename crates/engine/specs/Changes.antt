@@ -1,17 +1,13 @@
 -- What a function makes of a row, of an entry of a table, and of every entry.
-use Rattle.std.specs.Prelude.{ℕ, ◌*◌, ◌≤◌, ◌≡◌, Bool, List, [], ◌++◌, map, length, take, drop, set, get_or}
-use Rattle.text.specs.Bytes.{equal}
-use Rattle.engine.specs.Target.{ssdp_all}
+use Rattle.std.specs.Prelude.{ℕ, ◌*◌, ◌≤◌, ◌≡◌, List, [], ◌++◌, map, length, take, drop, set, get_or}
 use Rattle.engine.specs.Held.{Text, Link, Advertisement}
 use Rattle.engine.specs.Calls.{Query, Asks}
 use Rattle.engine.specs.Replies.{sum_of, result}
 use Rattle.engine.specs.Arrays.{link_width, link_in, link_rows, numbers_width, texts_width, reply_in, text_in, service_place, location_place, answer_place, entry_in, entries}
 use Rattle.message.specs.Build.{type_max, name_max}
 use Rattle.engine.specs.Sizes.{advertisements_max, links_max, location_max}
-use Rattle.engine.specs.declared.advertisement.Endpoint.{Endpoint}
 use Rattle.engine.specs.declared.advertisement.ResponseNeeded.{ResponseNeeded}
-use Rattle.engine.specs.declared.advertisement.ResponseNeeded.TheVariants.{None, Unicast}
-use Rattle.engine.specs.declared.names.ActiveAdvertisement.{ActiveAdvertisement}
+use Rattle.engine.specs.declared.advertisement.ResponseNeeded.TheVariants.{None}
 
 -- ---- entry i of a list changed; a place outside the list changes nothing
 abbrev pub change_at : {A : Type 0} → A → ℕ → (A → A) → List A → List A
@@ -55,10 +51,10 @@ pub record Filled (i : ℕ) (a : Advertisement) (numbers texts numbers' texts' :
   pub first : numbers' ≡ take (numbers_width * i) numbers ++ (row ++ drop numbers_width (drop (numbers_width * i) numbers))
   pub second : texts' ≡ take (texts_width * i) texts ++ (line ++ drop texts_width (drop (texts_width * i) texts))
 
--- a row of texts with another answer type, and one of a new name
-pub record Answered (t q q' : List ℕ) : Type 0 where
+-- a row of texts with another answer type, of `len` bytes, and one of a new name
+pub record Answered (len : ℕ) (t q q' : List ℕ) : Type 0 where
   pub front : take answer_place q' ≡ take answer_place q
-  pub answer : take type_max (drop answer_place q') ≡ t
+  pub answer : text_in len answer_place type_max q' ≡ t
 
 pub record NewNumbers (n k l : ℕ) (r : List ℕ) : Type 0 where
   pub name : get_or r 0 0 ≡ n
@@ -82,12 +78,6 @@ pub record LinkFilled (i : ℕ) (a : Link) (links links' : List ℕ) : Type 0 wh
 pub record LinksAfter (n : ℕ) (links : List ℕ) (l : List Link) : Type 0 where
   pub few : n ≤ links_max
   pub rows : link_rows n links ≡ l
-
--- ---- what a search opens: a reply to its sender that answers in the target; `all` tells whether it asks for all types, and is answered in each name's own
-pub record Opening (target : Text) (due : ℕ) (sender : Endpoint) (receiver : ℕ) (all : Bool) (a : ActiveAdvertisement) : Type 0 where
-  pub every : all ≡ equal target ssdp_all
-  pub reply : a.response_needed ≡ Unicast due sender receiver
-  pub answer : take a.answer_len a.answer ≡ target
 
 -- ---- a search on the names: those after it, and what it counts (document 01, 'Engine and ledger')
 pub record AskedBy (seed : ℕ) (q : Query) (l l' : List Advertisement) (m n : ℕ) : Type 0 where

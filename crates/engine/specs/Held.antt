@@ -1,8 +1,8 @@
 -- What an engine holds, without the padding of its tables: contracts and claims go by it. specs/Arrays.antt says what arrays hold it.
-use Rattle.std.specs.Prelude.{ℕ, Bool, true, false, List, [], eqb, ltb, take}
+use Rattle.std.specs.Prelude.{ℕ, Bool, true, false, List, [], eqb, ltb}
 use Rattle.text.specs.Bytes.{order, equal}
-use Rattle.text.specs.declared.bytes.Ordering.{Ordering}
-use Rattle.text.specs.declared.bytes.Ordering.TheVariants.{Less, Equal, Greater}
+use Rattle.std.specs.declared.cmp.Ordering.{Ordering}
+use Rattle.std.specs.declared.cmp.Ordering.TheVariants.{Less, Equal, Greater}
 use Rattle.engine.specs.Table.{Key}
 use Rattle.engine.specs.RefreshTimer.{timer_new}
 use Rattle.engine.specs.declared.refresh_timer.RefreshTimer.{RefreshTimer}
@@ -37,9 +37,9 @@ pub record Held : Type 0 where
   pub context : Context
   pub advertisements : List Advertisement
 
--- ---- a link that was taken out of its row; a count above its array means the whole array
+-- ---- a link that was taken out of its row
 unfoldable pub link_of : Interface → Link
-link_of i = record { index = i.index; up = i.up; addresses = take i.count i.addresses }
+link_of i = record { index = i.index; up = i.up; addresses = i.addresses.items }
 
 -- what is held, part by part
 abbrev pub holding : ℕ → RefreshTimer → List Link → List Text → List Advertisement → Held

@@ -11,8 +11,8 @@ pub mod Delay
 pub mod Held
 pub mod Calls
 pub mod Links
+pub mod Lent
 pub mod LinkTable
-pub mod Addresses
 pub mod Records
 pub mod Announcements
 pub mod Layout
@@ -25,9 +25,10 @@ pub mod Engine
 pub mod Outcomes
 pub mod Notifying
 pub mod Rows
-pub mod Shifts
 pub mod Wanted
 pub mod Arrays
+pub mod Row
+pub mod Owned
 pub mod Changes
 pub mod Promises
 pub mod StarCases

@@ -1,8 +1,8 @@
 -- The refresh timer: document 01, 'Refresh timer', and refusal 1 of 'Who can be turned away'.
-use Rattle.std.specs.Prelude.{ℕ, ◌+◌, ◌*◌, ◌/◌, ◌%◌, ◌^◌, cond, leb, ltb, eqb}
+use Rattle.std.specs.Prelude.{ℕ, ◌+◌, ◌*◌, ◌/◌, ◌%◌, ◌^◌, cond, leb, ltb, eqb, Result, Ok, Err}
 use Rattle.engine.specs.Sizes.{time_max}
 use Rattle.engine.specs.declared.refresh_timer.RefreshTimer.{RefreshTimer}
-use Rattle.engine.specs.declared.refresh_timer.TimerAnswer.{TimerAnswer}
+use Rattle.engine.specs.declared.refresh_timer.Late.{Late}
 
 -- refusal '1 time above 2^63 − 1'
 abbrev pub time_refusal : ℕ → ℕ
@@ -31,15 +31,20 @@ timer_step t time =
     (record { random_seed = t.random_seed; next_salvo = t.next_salvo + period t.random_seed t.phase; phase = (t.phase + 1) % 4 })
 
 -- the call's answer where its time is refused, and where it is not
-unfoldable pub answer_for : ℕ → RefreshTimer → RefreshTimer → TimerAnswer
-answer_for time refused accepted = record { refusal = time_refusal time; timer = cond (leb time time_max) accepted refused }
+unfoldable pub answer_for : ℕ → RefreshTimer → RefreshTimer → Result RefreshTimer Late
+answer_for time refused accepted = cond (leb time time_max) (Ok accepted) (Err (record { timer = refused }))
+
+-- the timer with which the caller goes on
+abbrev pub timer_of : Result RefreshTimer Late → RefreshTimer
+timer_of (Ok t) = t
+timer_of (Err late) = late.timer
 
 -- a refused `new` gives that seed at time 0, any other refused call the untouched timer
-abbrev pub new_answer : ℕ → ℕ → TimerAnswer
+abbrev pub new_answer : ℕ → ℕ → Result RefreshTimer Late
 new_answer seed time = answer_for time (timer_new seed 0) (timer_new seed time)
 
-abbrev pub reset_answer : RefreshTimer → ℕ → TimerAnswer
+abbrev pub reset_answer : RefreshTimer → ℕ → Result RefreshTimer Late
 reset_answer t time = answer_for time t (timer_reset t time)
 
-abbrev pub update_answer : RefreshTimer → ℕ → TimerAnswer
+abbrev pub update_answer : RefreshTimer → ℕ → Result RefreshTimer Late
 update_answer t time = answer_for time t (timer_step t time)

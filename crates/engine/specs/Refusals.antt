@@ -1,5 +1,5 @@
 -- Who can be turned away: the refusal of each call, in document 01's order. What it looks at of the names is handed in, so that the engine and the ledger share it.
-use Rattle.std.specs.Prelude.{ℕ, Bool, cond, not, ◌&&◌, ◌||◌, List, [], ◌∷◌, ltb, leb, eqb, length}
+use Rattle.std.specs.Prelude.{ℕ, Bool, cond, not, ◌&&◌, ◌||◌, List, [], ◌∷◌, ltb, leb, eqb, length, Result, Ok, Err}
 use Rattle.std.proofs.Math.Option.{Option, none, some}
 use Rattle.text.specs.Good.{good_text}
 use Rattle.message.specs.Parse.{parsed, field_at}
@@ -14,6 +14,8 @@ use Rattle.engine.specs.Held.{Text, Link, Context, by_index}
 use Rattle.engine.specs.Calls.{Call, NewLink, DeletedLink, NewAddress, DeletedAddress, Subscribe, Advertise, Deadvertise, Refresh, Datagram, Timeout, ResetTimer}
 use Rattle.engine.specs.Links.{addresses_of, link_at, stores, is_v4, is_v6}
 use Rattle.engine.specs.Need.{Names, need}
+use Rattle.engine.specs.declared.refusals.Refusal.{Refusal}
+use Rattle.engine.specs.declared.refusals.Refusal.TheVariants.{TimeLate, OutboxShort, TextOverSize, TextNotGood, TableFull, WaitZero, TargetOverSize, IndexZero, AddressLength, LinksFull, JoinFailed}
 
 -- ---- document 01's numbers; 3, 4 and 6 to 8 are the message crate's
 -- time above 2^63 − 1
@@ -51,6 +53,24 @@ links_full = 13
 -- join outcome not 0 for a new multicast link
 abbrev pub join_failed : ℕ
 join_failed = 14
+
+-- the number of what a call is refused for, and of what a test answers: 0 where it refuses nothing
+abbrev pub number_of : Refusal → ℕ
+number_of TimeLate = time_late
+number_of OutboxShort = outbox_short
+number_of TextOverSize = text_over_size
+number_of TextNotGood = text_not_good
+number_of TableFull = table_full
+number_of WaitZero = wait_zero
+number_of TargetOverSize = target_over_size
+number_of IndexZero = index_zero
+number_of AddressLength = address_length
+number_of LinksFull = links_full
+number_of JoinFailed = join_failed
+
+abbrev pub refused_as : Result (Unit {0}) Refusal → ℕ
+refused_as (Ok _) = 0
+refused_as (Err r) = number_of r
 
 -- a test that refuses, and its number
 pub record Check : Type 0 where

@@ -1,6 +1,6 @@
 -- The waiting replies of the engine's advertisements: what a name that enters or leaves, a search and a handle_timeout make of them, and what they count
 -- (document 01, 'Engine and ledger').
-use Rattle.std.specs.Prelude.{ℕ, ◌+◌, min, Bool, true, false, cond, ◌&&◌, List, [], ◌∷◌, map, eqb}
+use Rattle.std.specs.Prelude.{ℕ, ◌+◌, min, Bool, true, false, cond, ◌&&◌, List, [], ◌∷◌, map, eqb, Option, Some, None as no_instant}
 use Rattle.text.specs.Bytes.{equal}
 use Rattle.engine.specs.Table.{enter, leave, entry_of}
 use Rattle.engine.specs.Target.{ssdp_all, target_match}
@@ -28,6 +28,12 @@ waits (Unicast due sender receiver) = 1
 -- the replies that wait
 unfoldable pub waiting : List Advertisement → ℕ
 waiting as' = sum_of (λ a. waits a.needed) as'
+
+-- the instant of a reply, if one waits
+abbrev pub due_at : ResponseNeeded → Option ℕ
+due_at None = no_instant
+due_at (Multicast due) = Some due
+due_at (Unicast due sender receiver) = Some due
 
 -- the least of an instant and every wait's
 abbrev pub sooner : ℕ → ResponseNeeded → ℕ

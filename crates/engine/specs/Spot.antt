@@ -1,8 +1,13 @@
 -- Where the entry of a key stands in an ordered table, or would stand: its rank, and whether the key is known.
-use Rattle.std.specs.Prelude.{◌≡◌, List}
+use Rattle.std.specs.Prelude.{ℕ, ◌≡◌, List, Result, Ok, Err}
+use Rattle.std.specs.Result.{is_ok}
 use Rattle.engine.specs.Table.{Key, rank, known}
-use Rattle.engine.specs.declared.table.Spot.{Spot}
 
-pub record Spotted {K A : Type 0} (k : Key K A) (x : K) (l : List A) (r : Spot) : Type 0 where
-  pub at : r.at ≡ rank k x l
-  pub known : r.known ≡ known k x l
+-- `Ok` of where it stands, or `Err` of where it would stand
+abbrev pub place : Result ℕ ℕ → ℕ
+place (Ok i) = i
+place (Err i) = i
+
+pub record Spotted {K A : Type 0} (k : Key K A) (x : K) (l : List A) (r : Result ℕ ℕ) : Type 0 where
+  pub at : place r ≡ rank k x l
+  pub known : is_ok r ≡ known k x l

@@ -2,8 +2,7 @@
 use Rattle.std.specs.Prelude.{ℕ, ◌+◌, Bool, false, ◌&&◌, ◌||◌, List, leb, ltb, length, take, drop}
 use Rattle.text.specs.Bytes.{bytes, equal, last_index_of}
 use Rattle.text.specs.Number.{number, max64}
-use Rattle.text.specs.declared.number.Number.{Number}
-use Rattle.text.specs.declared.number.Number.TheVariants.{Value, Invalid}
+use Rattle.std.specs.Prelude.{Option, Some, None}
 
 -- the target that every type matches
 abbrev pub ssdp_all : List ℕ
@@ -23,14 +22,14 @@ has_colon type = ltb (last_colon type) (length type)
 abbrev pub base_part : List ℕ → List ℕ
 base_part type = take (last_colon type) type
 
-abbrev pub version : List ℕ → Number
+abbrev pub version : List ℕ → Option ℕ
 version type = number max64 (drop (last_colon type + 1) type)
 
 -- both are numbers, 'candidate's at least the search's'
-abbrev pub at_least : Number → Number → Bool
-at_least (Value wanted) (Value offered) = leb wanted offered
-at_least (Value wanted) Invalid = false
-at_least Invalid offered = false
+abbrev pub at_least : Option ℕ → Option ℕ → Bool
+at_least (Some wanted) (Some offered) = leb wanted offered
+at_least (Some wanted) None = false
+at_least None offered = false
 
 -- 'both split at their last colon with equal left parts and right parts that are 64-bit numbers, candidate's at least the search's'
 unfoldable pub version_match : List ℕ → List ℕ → Bool

@@ -1,62 +1,54 @@
 // One message to the group from every address on an up link: document 01, 'Outbox'.
-// The contracts cite specs/Announcements.antt and, for what is written, `Sends` of specs/Layout.antt.
-ghost use Rattle.std.specs.Prelude.{[], ◌∷◌, ◌+◌, ◌*◌, ◌≤◌, length, take};
-ghost use Rattle.engine.specs.Sizes.{record_size, location_max};
-ghost use Rattle.engine.specs.Layout.{Room, Sends};
+// The contracts cite specs/Announcements.antt and, for what is written, `Sent` of specs/Layout.antt.
+ghost use Rattle.std.specs.Prelude.{[], ◌∷◌, ◌*◌, ◌≤◌, length};
+ghost use Rattle.engine.specs.Sizes.{record_size};
+ghost use Rattle.engine.specs.Layout.{Room, Sent};
 ghost use Rattle.engine.specs.Announcements.{announced, announced_on};
 
-use crate::clamp::least;
+use crate::advertisement::Location;
 use crate::outbox::{byebye_on, notify_on, search_on};
-use crate::sizes::SOURCES;
+use crate::sizes::RECORD_SIZE;
 
 // What is said: a search for a type, that a service is there, that a service goes.
 #[derive(Clone, Copy)]
-pub enum Announcement {
-    Search,
-    Alive,
-    ByeBye,
+pub enum Announcement<'a> {
+    Search {
+        service: &'a [u8],
+    },
+    Alive {
+        service: &'a [u8],
+        name: &'a [u8],
+        location: Location<'a>,
+    },
+    ByeBye {
+        service: &'a [u8],
+        name: &'a [u8],
+    },
 }
 
-// Record k: an announcement from one address. Answers the next record's number.
-fn announce(
-    outbox: &mut [u8],
-    k: usize,
-    source: u32,
-    what: Announcement,
-    service: &[u8],
-    name: &[u8],
-    location: &[u8],
-) -> usize
-    requires { (record_size * (k + 1) ≤ length outbox.old) × (length location.now ≤ location_max) }
-    ensures { Sends outbox.old k (announced what service.now name.now location.now source ∷ []) outbox.new result }
+// An announcement from one address: one record.
+fn announce(outbox: &mut [u8], source: u32, what: &Announcement<'_>)
+    requires { record_size ≤ length outbox.old }
+    ensures { Sent (announced what.now source ∷ []) outbox.old outbox.new 1 }
 {
-    match what {
-        Announcement::Search => search_on(outbox, k, source, service),
-        Announcement::Alive => notify_on(outbox, k, source, service, name, location),
-        Announcement::ByeBye => byebye_on(outbox, k, source, service, name),
+    match *what {
+        Announcement::Search { service } => search_on(outbox, source, service),
+        Announcement::Alive {
+            service,
+            name,
+            location,
+        } => notify_on(outbox, source, service, name, location),
+        Announcement::ByeBye { service, name } => byebye_on(outbox, source, service, name),
     }
 }
 
-// From record k on: an announcement from each of the first `n` addresses. Answers the next record's number.
-pub(crate) fn announce_on_all(
-    outbox: &mut [u8],
-    k: usize,
-    up: [u32; SOURCES],
-    n: usize,
-    what: Announcement,
-    service: &[u8],
-    name: &[u8],
-    location: &[u8],
-) -> usize
-    requires { Room outbox.old k (announced_on (take n up) what service.now name.now location.now) × (length location.now ≤ location_max) }
-    ensures { Sends outbox.old k (announced_on (take n up) what service.now name.now location.now) outbox.new result }
+// An announcement from each address. Answers the number of records.
+pub(crate) fn announce_on_all(outbox: &mut [u8], up: &[u32], what: &Announcement<'_>) -> usize
+    requires { Room outbox.old 0 (announced_on up.now what.now) }
+    ensures { Sent (announced_on up.now what.now) outbox.old outbox.new result }
 {
-    let m = least(n, SOURCES);
-    let mut at = k;
-    let mut i = 0;
-    while i < m {
-        at = announce(outbox, at, up[i], what, service, name, location);
-        i += 1;
+    for (k, &source) in up.iter().enumerate() {
+        announce(&mut outbox[RECORD_SIZE * k..], source, what);
     }
-    at
+    up.len()
 }

@@ -1,5 +1,6 @@
 // What a call answers, and what an accepted one counts and notifies: document 01, 'Engine and ledger' and 'Who can be turned away'. The calls stand in calls.rt.
-ghost use Rattle.std.specs.Prelude.{◌≡◌, cond};
+ghost use Rattle.std.specs.Prelude.{◌≡◌};
+ghost use Rattle.std.specs.Option.{unwrap_or};
 ghost use Rattle.engine.specs.Replies.{drops};
 ghost use Rattle.engine.specs.Calls.{zeros};
 ghost use Rattle.engine.specs.Engine.{notifies_nobody};
@@ -9,6 +10,7 @@ use crate::subscription::Subscribers;
 
 // What a call answers: its refusal number (0: accepted), the records written, the five counts of the reply ledger that it adds,
 // the replies waiting and the instant to be polled at afterwards, the mask of subscriptions to tell and their number, and the leave outcome.
+// Hosts in C read it, so that a refusal is a number in it.
 #[repr(C)]
 #[derive(Clone, Copy)]
 pub struct Answer {
@@ -26,8 +28,8 @@ pub struct Answer {
     pub leave: u32,
 }
 
-// What an accepted call counts, and whom it notifies.
-#[derive(Clone, Copy)]
+// What an accepted call counts, and whom it notifies. These are fields of `Answer` too, whose places are C's.
+#[derive(Clone, Copy, Default)]
 pub struct Outcome {
     pub matched: usize,
     pub joined: usize,
@@ -43,32 +45,16 @@ pub struct Outcome {
 pub(crate) fn nothing() -> Outcome
     ensures { (counted result ≡ zeros) × (notified_by result ≡ notifies_nobody) }
 {
-    Outcome {
-        matched: 0,
-        joined: 0,
-        alone: 0,
-        group: 0,
-        dropped: 0,
-        mask: 0,
-        told: 0,
-        leave: 0,
-    }
+    Outcome::default()
 }
 
 // A link was deleted: its leave outcome, if it was held.
-pub(crate) fn leaving(held: bool, outcome: u32) -> Outcome
-    ensures { (counted result ≡ zeros) × (notified_by result ≡ leaves (cond held outcome 0)) }
+pub(crate) fn leaving(left: Option<u32>) -> Outcome
+    ensures { (counted result ≡ zeros) × (notified_by result ≡ leaves (unwrap_or left 0)) }
 {
-    let leave = if held { outcome } else { 0 };
     Outcome {
-        matched: 0,
-        joined: 0,
-        alone: 0,
-        group: 0,
-        dropped: 0,
-        mask: 0,
-        told: 0,
-        leave: leave,
+        leave: left.unwrap_or(0),
+        ..nothing()
     }
 }
 
@@ -77,14 +63,8 @@ pub(crate) fn dropping(dropped: usize) -> Outcome
     ensures { (counted result ≡ drops dropped) × (notified_by result ≡ notifies_nobody) }
 {
     Outcome {
-        matched: 0,
-        joined: 0,
-        alone: 0,
-        group: 0,
-        dropped: dropped,
-        mask: 0,
-        told: 0,
-        leave: 0,
+        dropped,
+        ..nothing()
     }
 }
 
@@ -93,14 +73,9 @@ pub(crate) fn sending(alone: usize, group: usize) -> Outcome
     ensures { (counted result ≡ sends alone group) × (notified_by result ≡ notifies_nobody) }
 {
     Outcome {
-        matched: 0,
-        joined: 0,
-        alone: alone,
-        group: group,
-        dropped: 0,
-        mask: 0,
-        told: 0,
-        leave: 0,
+        alone,
+        group,
+        ..nothing()
     }
 }
 
@@ -109,14 +84,9 @@ pub(crate) fn asking(matched: usize, joined: usize) -> Outcome
     ensures { (counted result ≡ asks matched joined) × (notified_by result ≡ notifies_nobody) }
 {
     Outcome {
-        matched: matched,
-        joined: joined,
-        alone: 0,
-        group: 0,
-        dropped: 0,
-        mask: 0,
-        told: 0,
-        leave: 0,
+        matched,
+        joined,
+        ..nothing()
     }
 }
 
@@ -125,13 +95,8 @@ pub(crate) fn notifying(s: Subscribers) -> Outcome
     ensures { (counted result ≡ zeros) × (notified_by result ≡ notifies_mask s.mask s.told) }
 {
     Outcome {
-        matched: 0,
-        joined: 0,
-        alone: 0,
-        group: 0,
-        dropped: 0,
         mask: s.mask,
         told: s.told,
-        leave: 0,
+        ..nothing()
     }
 }

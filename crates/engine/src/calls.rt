@@ -1,12 +1,13 @@
 // The calls over the arrays that an owner lends: document 01, 'Engine and ledger' and 'Who can be turned away'. Each is lent what it needs and changes it in place;
-// each contract is `Answers` of specs/Promises.antt at that call, for every content of the arrays.
+// each contract is `Answers` of specs/Promises.antt at that call, for every content of the arrays. The arrays come one by one, since an owner in C lends each by itself;
+// arrays.rt has the calls for an owner that holds them together.
 ghost use Rattle.std.specs.Prelude.{◌≡◌, true, false, cond, not, ◌&&◌, List, [], ℕ, ◌≤◌, ◌<◌, leb, length};
 ghost use Rattle.message.specs.Parse.{parsed, reads};
-ghost use Rattle.message.specs.Build.{type_max, name_max};
 ghost use Rattle.message.specs.declared.Message.TheVariants.{Search};
-ghost use Rattle.engine.specs.Sizes.{advertisements_max, location_max, time_max};
+ghost use Rattle.engine.specs.Sizes.{advertisements_max, time_max};
 ghost use Rattle.engine.specs.Table.{known, enter, leave};
-ghost use Rattle.engine.specs.Spot.{Spotted};
+ghost use Rattle.std.specs.Result.{is_ok};
+ghost use Rattle.engine.specs.Spot.{place, Spotted};
 ghost use Rattle.engine.specs.Held.{Text, advertised};
 ghost use Rattle.engine.specs.Links.{up_addresses};
 ghost use Rattle.engine.specs.Records.{byebye_on};
@@ -16,38 +17,37 @@ ghost use Rattle.engine.specs.Reading.{is_notice};
 ghost use Rattle.engine.specs.Calls.{NewLink, DeletedLink, NewAddress, DeletedAddress, Subscribe, Advertise, Deadvertise, Refresh, Datagram, Timeout, ResetTimer};
 ghost use Rattle.engine.specs.Engine.{refusal_of, refused_by, answer_with};
 ghost use Rattle.engine.specs.Outcomes.{counted, notified_by};
-ghost use Rattle.engine.specs.Arrays.{head_places, numbers_size, links_in, entry_at, reply_at, name_count, names_in, LinkArrays, SearchArrays, NameArrays, engine, held};
+ghost use Rattle.engine.specs.Arrays.{links_in, entry_at, reply_at, name_count, names_in, engine, held};
 ghost use Rattle.engine.specs.Changes.{NamesAfter};
 ghost use Rattle.engine.specs.Promises.{answered, Answers, Begins};
 ghost use Rattle.engine.specs.declared.advertisement.Endpoint.{Endpoint};
 
-use crate::advertisement::Endpoint;
+use crate::advertisement::{Endpoint, Location, Service};
 use crate::answer::{Answer, Outcome, asking, dropping, leaving, nothing, notifying, sending};
 use crate::flags::Flags;
 use crate::head::{begin, rolled, seed_in, set_count, set_timer, timer_in};
+use crate::lent::Tables;
 use crate::pending::{searched, serve_all, waits_in};
 use crate::reading::type_of;
 use crate::refresh_timer::RefreshTimer;
-use crate::replies::wait_of;
+use crate::refusals::Refusal;
 use crate::sizes::{
     Head, LINK_COUNT, Links, NAME_COUNT, Numbers, SEARCH_COUNT, Searches, TIME_MAX, Texts,
 };
 use crate::source::of_up_links;
-use crate::table::Spot;
-use crate::{address, links, names, need, news, refusals, send, subscription};
-use message::{Message, Parsed};
+use crate::{address, links, names, need, news, refusals, salvo, send, subscription};
+use message::Message;
 use text::white::Place;
 
-// The answer of an accepted call that leaves these arrays.
-fn accepted(head: &[u64], numbers: &[u64], records: usize, t: Outcome) -> Answer
-    requires { (length head.now ≡ head_places) × (length numbers.now ≡ numbers_size) }
-    ensures { (links searches texts : List ℕ) → result ≡ answer_with 0 records (counted t) (held (engine head.now links searches numbers.now texts)) (notified_by t) }
+// The answer of a call that leaves these arrays: 0 or what it is refused for, the records that it wrote, and its outcome.
+fn answer(head: &Head, numbers: &Numbers, refusal: u32, records: usize, t: Outcome) -> Answer
+    ensures { (links searches texts : List ℕ) → result ≡ answer_with refusal records (counted t) (held (engine head.now links searches numbers.now texts)) (notified_by t) }
 {
     let timer = timer_in(head);
     let waits = waits_in(head, numbers, timer.next_salvo);
     Answer {
-        refusal: 0,
-        records: records,
+        refusal,
+        records,
         matched: t.matched,
         joined: t.joined,
         alone: t.alone,
@@ -61,27 +61,18 @@ fn accepted(head: &[u64], numbers: &[u64], records: usize, t: Outcome) -> Answer
     }
 }
 
-// The answer of a refused call.
-fn refused(head: &[u64], numbers: &[u64], number: u32) -> Answer
-    requires { (length head.now ≡ head_places) × (length numbers.now ≡ numbers_size) }
+// That of an accepted call.
+fn accepted(head: &Head, numbers: &Numbers, records: usize, t: Outcome) -> Answer
+    ensures { (links searches texts : List ℕ) → result ≡ answer_with 0 records (counted t) (held (engine head.now links searches numbers.now texts)) (notified_by t) }
+{
+    answer(head, numbers, 0, records, t)
+}
+
+// That of a refused call, by the number that `Answer` has: a datagram is refused for an error of the message crate too.
+fn refused(head: &Head, numbers: &Numbers, number: u32) -> Answer
     ensures { (links searches texts : List ℕ) → result ≡ (refused_by number (held (engine head.now links searches numbers.now texts))).answer }
 {
-    let timer = timer_in(head);
-    let waits = waits_in(head, numbers, timer.next_salvo);
-    Answer {
-        refusal: number,
-        records: 0,
-        matched: 0,
-        joined: 0,
-        alone: 0,
-        group: 0,
-        dropped: 0,
-        waiting: waits.waiting,
-        poll: waits.poll,
-        mask: 0,
-        told: 0,
-        leave: 0,
-    }
+    answer(head, numbers, number, 0, nothing())
 }
 
 // The owner's first call, on arrays of any content, with a random seed, by which units spread their delays. Each answer's `poll` is the instant to call
@@ -90,28 +81,29 @@ fn refused(head: &[u64], numbers: &[u64], number: u32) -> Answer
 pub fn new(head: &mut Head, numbers: &Numbers, random_seed: u32, time: u64) -> Answer
     ensures { (links searches texts : List ℕ) → Begins random_seed time (answered (engine head.new links searches numbers.now texts) result) }
 {
-    let number = refusals::of_time(time);
-    let begun = RefreshTimer::new(random_seed, time);
-    let timer = begun.timer;
-    begin(head, timer);
-    if number != 0 {
-        return refused(head, numbers, number);
+    match RefreshTimer::new(random_seed, time) {
+        Ok(timer) => {
+            begin(head, timer);
+            accepted(head, numbers, 0, nothing())
+        }
+        Err(late) => {
+            begin(head, late.timer);
+            refused(head, numbers, Refusal::from(late).number())
+        }
     }
-    accepted(head, numbers, 0, nothing())
 }
 
 // Begins the refresh salvos anew: for an owner whose network or clock was away. What waits keeps its instants.
 pub fn reset_refresh_timer(head: &mut Head, numbers: &Numbers, time: u64) -> Answer
     ensures { (links searches texts : List ℕ) → Answers (engine head.old links searches numbers.now texts) (ResetTimer time) [] [] (answered (engine head.new links searches numbers.now texts) result) }
 {
-    let number = refusals::of_time(time);
-    if number != 0 {
-        return refused(head, numbers, number);
+    match timer_in(head).reset(time) {
+        Ok(timer) => {
+            set_timer(head, timer);
+            accepted(head, numbers, 0, nothing())
+        }
+        Err(late) => refused(head, numbers, Refusal::from(late).number()),
     }
-    let timer = timer_in(head);
-    let reset = timer.reset(time);
-    set_timer(head, reset.timer);
-    accepted(head, numbers, 0, nothing())
 }
 
 // Sends all announcements, then the searches: for an owner that wants them before the next salvo, whose instant stays. As in every call that is lent an outbox, the
@@ -127,13 +119,17 @@ pub fn refresh(
     ensures { Answers (engine head.now links.now searches.now numbers.now texts.now) (Refresh (length outbox.old)) outbox.old outbox.new (answered (engine head.now links.now searches.now numbers.now texts.now) result) }
 {
     let need = need::of_refresh(head, links, searches);
-    let number = refusals::of_room(outbox.len() < need);
-    if number != 0 {
-        return refused(head, numbers, number);
+    if let Err(refusal) = refusals::of_room(outbox.len() < need) {
+        return refused(head, numbers, refusal.number());
     }
     let up = of_up_links(head, links);
-    let from = up.addresses;
-    let k = send::send_refresh(outbox, from, up.count, head, searches, numbers, texts);
+    let tables = Tables {
+        head,
+        searches,
+        numbers,
+        texts,
+    };
+    let k = salvo::refresh_on_all(outbox, &up, &tables);
     accepted(head, numbers, k, nothing())
 }
 
@@ -151,13 +147,11 @@ pub fn subscribe(
 {
     let n = subscription::count_of(head);
     let need = need::of_announcement(head, links);
-    let number = refusals::of_subscribe(n, outbox.len() < need, service);
-    if number != 0 {
-        return refused(head, numbers, number);
+    if let Err(refusal) = refusals::of_subscribe(n, outbox.len() < need, service) {
+        return refused(head, numbers, refusal.number());
     }
     let up = of_up_links(head, links);
-    let from = up.addresses;
-    let k = send::send_search(outbox, from, up.count, service);
+    let k = salvo::send_search(outbox, &up, service);
     subscription::push(searches, n, service);
     set_count(head, SEARCH_COUNT, n + 1);
     accepted(head, numbers, k, nothing())
@@ -173,14 +167,13 @@ pub fn deleted_link(
 ) -> Answer
     ensures { (searches texts : List ℕ) → Answers (engine head.old links.old searches numbers.now texts) (DeletedLink index outcome) [] [] (answered (engine head.new links.new searches numbers.now texts) result) }
 {
-    let number = refusals::of_deleted_link(index);
-    if number != 0 {
-        return refused(head, numbers, number);
+    if let Err(refusal) = refusals::of_deleted_link(index) {
+        return refused(head, numbers, refusal.number());
     }
     let spot = links::spot_of(head, links, index);
     let n = links::removed(head, links, index);
     set_count(head, LINK_COUNT, n);
-    accepted(head, numbers, 0, leaving(spot.known, outcome))
+    accepted(head, numbers, 0, leaving(spot.is_ok().then_some(outcome)))
 }
 
 // An address has gone from a link; nothing is sent from it any more, but for lone replies to searches that reached it.
@@ -193,9 +186,8 @@ pub fn deleted_address(
 ) -> Answer
     ensures { (searches texts : List ℕ) → Answers (engine head.old links.old searches numbers.now texts) (DeletedAddress index address.now) [] [] (answered (engine head.new links.new searches numbers.now texts) result) }
 {
-    let number = refusals::of_deleted_address(index, address);
-    if number != 0 {
-        return refused(head, numbers, number);
+    if let Err(refusal) = refusals::of_deleted_address(index, address) {
+        return refused(head, numbers, refusal.number());
     }
     let held = links::lookup(head, links, index);
     let remaining = news::address_gone(head, links, held, address);
@@ -222,17 +214,25 @@ pub fn new_link(
     let multicast = Flags(flags).is_multicast();
     let count = links::count_of(head);
     let short = outbox.len() < need::of_new_link(head, links, searches, index, flags);
-    let number = refusals::of_new_link(multicast, held.known, count, index, outcome, short);
-    if number != 0 {
-        return refused(head, numbers, number);
+    if let Err(refusal) = refusals::of_new_link(
+        multicast,
+        held.is_some(),
+        count,
+        index,
+        outcome,
+        short,
+    ) {
+        return refused(head, numbers, refusal.number());
     }
-    let link = held.link;
-    let from = link.addresses;
-    let turns = news::turns_up(held, flags);
-    let k = send::send_if_up(
-        outbox, turns, from, link.count, head, searches, numbers, texts,
-    );
-    let n = news::link_stored(head, links, held, flags);
+    let turns = news::turns_up(&held, flags);
+    let tables = Tables {
+        head,
+        searches,
+        numbers,
+        texts,
+    };
+    let k = send::send_if_up(outbox, turns, news::addresses_of(&held), &tables);
+    let n = news::link_stored(head, links, index, held, flags);
     set_count(head, LINK_COUNT, n);
     accepted(head, numbers, k, nothing())
 }
@@ -251,62 +251,58 @@ pub fn new_address(
     ensures { Answers (engine head.old links.old searches.now numbers.now texts.now) (NewAddress index address.now (length outbox.old)) outbox.old outbox.new (answered (engine head.new links.new searches.now numbers.now texts.now) result) }
 {
     let held = links::lookup(head, links, index);
-    let link = held.link;
-    let storing = news::is_stored(held, address);
-    let count = address::count_of(link);
+    let storing = news::is_stored(&held, address);
+    let count = news::addresses_of(&held).len();
     let short = outbox.len() < need::of_new_address(head, links, searches, index, address);
-    let number = refusals::of_new_address(storing, count, index, address, short);
-    if number != 0 {
-        return refused(head, numbers, number);
+    if let Err(refusal) = refusals::of_new_address(storing, count, index, address, short) {
+        return refused(head, numbers, refusal.number());
     }
     let source = address::number_of(address);
-    let k = send::send_if_stored(
-        outbox,
-        storing & link.up,
-        source,
+    let tables = Tables {
         head,
         searches,
         numbers,
         texts,
-    );
+    };
+    let k = send::send_if_stored(outbox, storing & news::is_up(&held), source, &tables);
     let known = news::address_stored(head, links, held, address);
     set_count(head, LINK_COUNT, known);
     accepted(head, numbers, k, nothing())
 }
 
-// How many replies of a name wait, by where it stands: what is dropped if it is replaced or removed.
-fn dropped_at(numbers: &[u64], spot: Spot) -> usize
-    requires { (length numbers.now ≡ numbers_size) × (spot.known ≡ true → spot.at < advertisements_max) }
-    ensures { result ≡ cond spot.known (waits (reply_at spot.at numbers.now)) 0 }
+// How many replies of a name wait, by where it stands, a place in the table as `Spotted` says: what is dropped if it is replaced or removed.
+fn dropped_at(numbers: &Numbers, spot: Result<usize, usize>) -> usize
+    requires { is_ok spot ≡ true → place spot < advertisements_max }
+    ensures { result ≡ cond (is_ok spot) (waits (reply_at (place spot) numbers.now)) 0 }
 {
-    let at = spot.at;
-    if spot.known {
-        return wait_of(names::reply_at(numbers, at));
+    match spot {
+        Ok(i) => names::reply_at(numbers, i).waits(),
+        Err(_) => 0,
     }
-    0
 }
 
-// A name, whose texts fit, in the place of the one that is held or as a new one, by where it stands. Answers how many are held then.
+// A name in the place of the one that is held or as a new one, by where it stands. Answers how many are held then.
 fn enter(
-    head: &[u64],
-    numbers: &mut [u64],
-    texts: &mut [u8],
-    spot: Spot,
-    name: &[u8],
-    service: &[u8],
-    location: &[u8],
+    head: &Head,
+    numbers: &mut Numbers,
+    texts: &mut Texts,
+    spot: Result<usize, usize>,
+    new: &Service<'_>,
 ) -> usize
-    requires { (length head.now ≡ head_places) × NameArrays numbers.old texts.old × Spotted advertised name.now (names_in head.now numbers.old texts.old) spot × (length name.now ≤ name_max) × (length service.now ≤ type_max) × (length location.now ≤ location_max) × ((not (known advertised name.now (names_in head.now numbers.old texts.old)) && leb advertisements_max (length (names_in head.now numbers.old texts.old))) ≡ false) }
-    ensures { NamesAfter result numbers.new texts.new (enter advertised (newcomer name.now service.now location.now) (names_in head.now numbers.old texts.old)) }
+    requires { Spotted advertised new.now.name.now (names_in head.now numbers.old texts.old) spot × ((not (known advertised new.now.name.now (names_in head.now numbers.old texts.old)) && leb advertisements_max (length (names_in head.now numbers.old texts.old))) ≡ false) }
+    ensures { NamesAfter result numbers.new texts.new (enter advertised (newcomer new.now.name.now new.now.service.now new.now.location.text.now) (names_in head.now numbers.old texts.old)) }
 {
     let n = names::count_of(head);
-    let at = spot.at;
-    if spot.known {
-        names::put_over(numbers, texts, n, at, name, service, location);
-        return n;
+    match spot {
+        Ok(i) => {
+            names::put_over(numbers, texts, n, i, new);
+            n
+        }
+        Err(i) => {
+            names::put_in(numbers, texts, n, i, new);
+            n + 1
+        }
     }
-    names::put_in(numbers, texts, n, at, name, service, location);
-    n + 1
 }
 
 // Announces a service under a name, now and at each refresh. A name that is held is replaced, and its waiting reply dropped.
@@ -325,15 +321,22 @@ pub fn advertise(
     let spot = names::spot_of(head, numbers, texts, name);
     let count = names::count_of(head);
     let short = outbox.len() < need::of_announcement(head, links);
-    let number = refusals::of_advertise(spot.known, count, short, name, service, location);
-    if number != 0 {
-        return refused(head, numbers, number);
+    if let Err(refusal) = refusals::of_advertise(
+        spot.is_ok(),
+        count,
+        short,
+        name,
+        service,
+        location,
+    ) {
+        return refused(head, numbers, refusal.number());
     }
+    let location = Location { text: location };
     let up = of_up_links(head, links);
-    let from = up.addresses;
-    let k = send::send_alive(outbox, from, up.count, service, name, location);
+    let k = send::send_alive(outbox, &up, service, name, location);
     let dropped = dropped_at(numbers, spot);
-    let n = enter(head, numbers, texts, spot, name, service, location);
+    let offered = Service::new(name, service, location);
+    let n = enter(head, numbers, texts, spot, &offered);
     set_count(head, NAME_COUNT, n);
     accepted(head, numbers, k, dropping(dropped))
 }
@@ -341,36 +344,33 @@ pub fn advertise(
 // The byebyes of a name, by where it stands.
 fn byebye_if(
     outbox: &mut [u8],
-    head: &[u64],
-    links: &[u64],
-    numbers: &[u64],
-    texts: &[u8],
-    spot: Spot,
+    head: &Head,
+    links: &Links,
+    numbers: &Numbers,
+    texts: &Texts,
+    spot: Result<usize, usize>,
 ) -> usize
-    requires { LinkArrays head.now links.now × NameArrays numbers.now texts.now × (spot.known ≡ true → spot.at < advertisements_max) × Room outbox.old 0 (cond spot.known (byebye_on (up_addresses (links_in head.now links.now)) (entry_at spot.at numbers.now texts.now)) []) }
-    ensures { Sent (cond spot.known (byebye_on (up_addresses (links_in head.now links.now)) (entry_at spot.at numbers.now texts.now)) []) outbox.old outbox.new result }
+    requires { (is_ok spot ≡ true → place spot < advertisements_max) × Room outbox.old 0 (cond (is_ok spot) (byebye_on (up_addresses (links_in head.now links.now)) (entry_at (place spot) numbers.now texts.now)) []) }
+    ensures { Sent (cond (is_ok spot) (byebye_on (up_addresses (links_in head.now links.now)) (entry_at (place spot) numbers.now texts.now)) []) outbox.old outbox.new result }
 {
-    let at = spot.at;
-    if spot.known {
-        let up = of_up_links(head, links);
-        let from = up.addresses;
-        return send::send_byebye(outbox, from, up.count, numbers, texts, at);
-    }
-    0
+    let Ok(i) = spot else {
+        return 0;
+    };
+    let up = of_up_links(head, links);
+    send::send_byebye(outbox, &up, &names::active_at(numbers, texts, i))
 }
 
 // The names without the one that stands here. Answers how many are held then.
-fn leave(head: &[u64], numbers: &mut [u64], texts: &mut [u8], spot: Spot) -> usize
-    requires { (length head.now ≡ head_places) × NameArrays numbers.old texts.old × (spot.known ≡ true → spot.at < name_count head.now) }
+fn leave(head: &Head, numbers: &mut Numbers, texts: &mut Texts, spot: Result<usize, usize>) -> usize
+    requires { is_ok spot ≡ true → place spot < name_count head.now }
     ensures { (name : Text) → Spotted advertised name (names_in head.now numbers.old texts.old) spot → NamesAfter result numbers.new texts.new (leave advertised name (names_in head.now numbers.old texts.old)) }
 {
     let n = names::count_of(head);
-    let at = spot.at;
-    if spot.known {
-        names::taken_out(numbers, texts, n, at);
-        return n - 1;
-    }
-    n
+    let Ok(i) = spot else {
+        return n;
+    };
+    names::taken_out(numbers, texts, n, i);
+    n - 1
 }
 
 // Says that a service has gone, and drops its waiting reply. An unknown name does nothing. An owner that ends does this for each of its names.
@@ -385,10 +385,9 @@ pub fn deadvertise(
     ensures { (searches : List ℕ) → Answers (engine head.old links.now searches numbers.old texts.old) (Deadvertise name.now (length outbox.old)) outbox.old outbox.new (answered (engine head.new links.now searches numbers.new texts.new) result) }
 {
     let spot = names::spot_of(head, numbers, texts, name);
-    let need = need::of_byebye(head, links, spot.known);
-    let number = refusals::of_room(outbox.len() < need);
-    if number != 0 {
-        return refused(head, numbers, number);
+    let need = need::of_byebye(head, links, spot.is_ok());
+    if let Err(refusal) = refusals::of_room(outbox.len() < need) {
+        return refused(head, numbers, refusal.number());
     }
     let k = byebye_if(outbox, head, links, numbers, texts, spot);
     let dropped = dropped_at(numbers, spot);
@@ -411,12 +410,15 @@ fn serve_due(
     ensures { Answers (engine head.old links.now searches.now numbers.old texts.now) (Timeout time (length outbox.old)) outbox.old outbox.new (answered (engine head.new links.now searches.now numbers.new texts.now) result) }
 {
     let up = of_up_links(head, links);
-    let from = up.addresses;
     let timer = timer_in(head);
     let due = timer.next_salvo <= time;
-    let k = send::send_timeout(
-        outbox, from, up.count, due, time, head, searches, numbers, texts,
-    );
+    let tables = Tables {
+        head,
+        searches,
+        numbers,
+        texts,
+    };
+    let k = send::send_timeout(outbox, &up, due, time, &tables);
     let served = serve_all(head, numbers, time);
     set_timer(head, rolled(timer, time));
     accepted(head, numbers, k, sending(served.alone, served.group))
@@ -435,9 +437,8 @@ pub fn handle_timeout(
 ) -> Answer
     ensures { Answers (engine head.old links.now searches.now numbers.old texts.now) (Timeout time (length outbox.old)) outbox.old outbox.new (answered (engine head.new links.now searches.now numbers.new texts.now) result) }
 {
-    let number = refusals::of_time(time);
-    if number != 0 {
-        return refused(head, numbers, number);
+    if let Err(refusal) = refusals::of_time(time) {
+        return refused(head, numbers, refusal.number());
     }
     let idle = accepted(head, numbers, 0, nothing());
     if time < idle.poll {
@@ -445,16 +446,16 @@ pub fn handle_timeout(
     }
     let need = need::of_timeout(head, links, searches, numbers, time);
     if outbox.len() < need {
-        return refused(head, numbers, refusals::OUTBOX_SHORT);
+        return refused(head, numbers, Refusal::OutboxShort.number());
     }
     serve_due(head, links, searches, numbers, texts, time, outbox)
 }
 
 // A search: it opens, joins or shares the waiting replies of the names that it matches.
 fn on_search(
-    head: &[u64],
-    numbers: &mut [u64],
-    texts: &mut [u8],
+    head: &Head,
+    numbers: &mut Numbers,
+    texts: &mut Texts,
     time: u64,
     sender: Endpoint,
     receiver: u32,
@@ -462,13 +463,12 @@ fn on_search(
     place: Place,
     mx: u8,
 ) -> Answer
-    requires { (length head.now ≡ head_places) × NameArrays numbers.old texts.old × (time ≤ time_max) × (parsed datagram.now ≡ reads (Search place mx)) }
+    requires { (time ≤ time_max) × (parsed datagram.now ≡ reads (Search place mx)) }
     ensures { (links searches : List ℕ) → Answers (engine head.now links searches numbers.old texts.old) (Datagram time sender receiver datagram.now) [] [] (answered (engine head.now links searches numbers.new texts.new) result) }
 {
     let target = message::field(datagram, place);
-    let number = refusals::of_search(time, mx, target.len());
-    if number != 0 {
-        return refused(head, numbers, number);
+    if let Err(refusal) = refusals::of_search(time, mx, target.len()) {
+        return refused(head, numbers, refusal.number());
     }
     let asked = searched(
         head,
@@ -486,13 +486,13 @@ fn on_search(
 
 // Notice of a type, by a notify or response: the subscriptions that match it are told.
 fn on_notice(
-    head: &[u64],
-    searches: &[u8],
-    numbers: &[u64],
+    head: &Head,
+    searches: &Searches,
+    numbers: &Numbers,
     datagram: &[u8],
     said: Message,
 ) -> Answer
-    requires { SearchArrays head.now searches.now × (length numbers.now ≡ numbers_size) × (parsed datagram.now ≡ reads said) × (is_notice said ≡ true) }
+    requires { (parsed datagram.now ≡ reads said) × (is_notice said ≡ true) }
     ensures { (links texts : List ℕ) (time receiver : ℕ) (sender : Endpoint) → time ≤ time_max → Answers (engine head.now links searches.now numbers.now texts) (Datagram time sender receiver datagram.now) [] [] (answered (engine head.now links searches.now numbers.now texts) result) }
 {
     let told = subscription::told_of(head, searches, message::field(datagram, type_of(said)));
@@ -514,10 +514,10 @@ pub fn on_data(
     ensures { (links : List ℕ) → Answers (engine head.now links searches.now numbers.old texts.old) (Datagram time sender receiver datagram.now) [] [] (answered (engine head.now links searches.now numbers.new texts.new) result) }
 {
     if TIME_MAX < time {
-        return refused(head, numbers, refusals::TIME_LATE);
+        return refused(head, numbers, Refusal::TimeLate.number());
     }
     let answer = message::parse(datagram);
-    let Parsed::Message(said) = answer else {
+    let Ok(said) = answer else {
         return refused(head, numbers, message::refusal_of(answer));
     };
     match said {

@@ -9,17 +9,13 @@ const REPLY_EXTRA: u64 = 10;
 fn window_of(mx: u8) -> u32
     ensures { result ≡ window mx }
 {
-    let all = 1000 * (mx as u32);
-    if all <= 5000 { all } else { 5000 }
+    (1000 * u32::from(mx)).min(5000)
 }
 
 // The delay of a reply. Without a window there is nothing to spread; no accepted search has `mx` 0.
 pub(crate) fn delay_of(seed: u32, mx: u8) -> u64
     ensures { result ≡ delay seed mx }
 {
-    let window = window_of(mx);
-    if window == 0 {
-        return REPLY_EXTRA + seed as u64;
-    }
-    REPLY_EXTRA + (seed % window) as u64
+    let spread = seed.checked_rem(window_of(mx)).unwrap_or(seed);
+    REPLY_EXTRA + u64::from(spread)
 }

@@ -3,6 +3,7 @@
 ghost use Rattle.std.specs.Prelude.{◌≡◌};
 ghost use Rattle.engine.specs.Flags.{contains, is_up, is_multicast};
 
+// A host hands in the bits as its kernel has them.
 #[derive(Clone, Copy)]
 pub struct Flags(pub u32);
 

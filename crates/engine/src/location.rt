@@ -7,13 +7,14 @@ ghost use Rattle.engine.specs.Location.{address_text_max, decimal, decimal_dot, 
 use crate::buffer::put;
 use text::bytes;
 
-// A byte in decimal digits, without leading zeros.
+// A byte in decimal digits, without leading zeros. Crate `console` appends what finds room, and this asks for room.
+// By hand: the library's printing goes through a formatter, which would need a writer of our own over the lent buffer.
 fn put_decimal(buf: &mut [u8], at: usize, n: u8) -> usize
     requires { at + 3 ≤ length buf.old }
     ensures put { Put buf.old at (decimal n) buf.new result }
     ensures upper_bound { result ≤ at + 3 }
 {
-    let digits = [48 + n / 100, 48 + n / 10 % 10, 48 + n % 10];
+    let digits = [b'0' + n / 100, b'0' + n / 10 % 10, b'0' + n % 10];
     if n < 10 {
         return put(buf, at, &digits[2..]);
     }
@@ -39,17 +40,11 @@ fn put_dotted(buf: &mut [u8], at: usize, address: u32) -> usize
     ensures put { Put buf.old at (dotted address) buf.new result }
     ensures upper_bound { result ≤ at + address_text_max }
 {
-    let a = put_decimal_dot(buf, at, (address / 16777216 % 256) as u8);
-    let b = put_decimal_dot(buf, a, (address / 65536 % 256) as u8);
-    let c = put_decimal_dot(buf, b, (address / 256 % 256) as u8);
-    put_decimal(buf, c, (address % 256) as u8)
-}
-
-// The place of the first `://`.
-fn scheme_end(location: &[u8]) -> usize
-    ensures { result ≡ scheme_end location.now }
-{
-    bytes::find_text(location, b"://")
+    let [first, second, third, fourth] = address.to_be_bytes();
+    let a = put_decimal_dot(buf, at, first);
+    let b = put_decimal_dot(buf, a, second);
+    let c = put_decimal_dot(buf, b, third);
+    put_decimal(buf, c, fourth)
 }
 
 // How much of what follows `://` is the host that goes.
@@ -57,15 +52,13 @@ fn scheme_end(location: &[u8]) -> usize
 fn host_length(s: &[u8]) -> usize
     ensures { result ≡ host_length s.now }
 {
-    let colon = bytes::find(s, b':');
-    let slash = bytes::find(s, b'/');
-    if slash <= colon {
-        return slash;
+    let Some(slash) = bytes::find(s, b'/') else {
+        return s.len();
+    };
+    match bytes::find(s, b':') {
+        Some(colon) => colon.min(slash),
+        None => slash,
     }
-    if s.len() <= slash {
-        return slash;
-    }
-    colon
 }
 
 // Where the host that begins at `start` ends.
@@ -83,10 +76,9 @@ pub(crate) fn rewrite_host(buf: &mut [u8], location: &[u8], address: u32) -> usi
     requires { length location.now + address_text_max ≤ length buf.old }
     ensures { Rewrites buf.old location.now address buf.new result }
 {
-    let scheme = scheme_end(location);
-    if location.len() <= scheme {
+    let Some(scheme) = bytes::find_text(location, b"://") else {
         return put(buf, 0, location);
-    }
+    };
     let start = scheme + 3;
     let end = host_end(location, start);
     let a = put(buf, 0, &location[..start]);

@@ -1,118 +1,99 @@
 // The table of names in two lent arrays, `numbers` and `texts`, a row for each name, in byte order of name. Only this file knows what stands where in a row.
-// What is read of row i is told by `entry_at` of specs/Arrays.antt; what is changed, as a change of the list of entries.
-ghost use Rattle.std.specs.Prelude.{◌≡◌, List, ℕ, suc, ◌+◌, ◌-◌, ◌*◌, ◌<◌, ◌≤◌, length, take, drop, set, get_or};
-ghost use Rattle.text.specs.Bytes.{equal, order};
-ghost use Rattle.message.specs.Build.{type_max, name_max};
-ghost use Rattle.engine.specs.Sizes.{advertisements_max, location_max};
+// What is read of row i is told by `entry_at` of specs/Arrays.antt; what is changed, as a change of the list of entries. The two arrays that are changed come as two
+// parameters: a struct of both references would be taken apart again in each function, since no part of an array behind a reference in a struct is lent. So what reads a
+// row takes the two as well, or the one that it reads.
+ghost use Rattle.std.specs.Prelude.{◌≡◌, List, ℕ, suc, ◌+◌, ◌-◌, ◌*◌, ◌<◌, ◌≤◌, length, set, get_or};
+ghost use Rattle.text.specs.Bytes.{order};
+ghost use Rattle.message.specs.Build.{type_max};
+ghost use Rattle.engine.specs.Sizes.{advertisements_max};
 ghost use Rattle.engine.specs.Slots.{insert_at, remove_at};
 ghost use Rattle.engine.specs.Spot.{Spotted};
-ghost use Rattle.engine.specs.Held.{advertised, is_less};
+ghost use Rattle.engine.specs.Held.{advertised};
 ghost use Rattle.engine.specs.Replies.{newcomer};
 ghost use Rattle.engine.specs.Rows.{row};
-ghost use Rattle.engine.specs.Shifts.{moved_up};
-ghost use Rattle.engine.specs.Arrays.{head_places, numbers_width, numbers_size, texts_width, texts_size, answer_place, text_in, reply_of, reply_in, reply_at, entry_in, entry_at, entries, name_count, names_in, NameArrays};
+ghost use Rattle.engine.specs.Arrays.{numbers_width, texts_width, service_place, text_in, reply_of, reply_at, entry_at, entries, name_count, names_in};
+ghost use Rattle.engine.specs.Row.{entry};
 ghost use Rattle.engine.specs.Changes.{change_at, blank, with_active, Replied, Answered, NewNumbers, NewTexts, Filled};
 
-use crate::advertisement::{Endpoint, ResponseNeeded};
+use crate::advertisement::{ActiveAdvertisement, Endpoint, Location, ResponseNeeded, Service};
 use crate::buffer::put;
-use crate::clamp::{count_in, least, low_16, low_32, number_of, size_of};
-use crate::shift::{bytes_down, bytes_up, numbers_down, numbers_up};
+use crate::clamp::{count_in, low_32};
 use crate::sizes::{
-    ANSWER_LENGTH, ANSWER_PLACE, LOCATION_LENGTH, LOCATION_PLACE, LOCATION_SIZE, NAME_COUNT,
-    NAME_LENGTH, NAME_SIZE, NAMES, NUMBERS_WIDTH, REPLY, REPLY_DUE, REPLY_PORT, REPLY_RECEIVER,
-    REPLY_SENDER, TEXTS_WIDTH, TYPE_LENGTH, TYPE_PLACE, TYPE_SIZE,
+    ANSWER_LENGTH, ANSWER_PLACE, Head, LOCATION_LENGTH, LOCATION_PLACE, LOCATION_SIZE, NAME_COUNT,
+    NAME_LENGTH, NAME_SIZE, NAMES, NUMBERS_WIDTH, Numbers, REPLY, REPLY_DUE, REPLY_PORT,
+    REPLY_RECEIVER, REPLY_SENDER, TEXTS_WIDTH, TYPE_LENGTH, TYPE_PLACE, TYPE_SIZE, Texts,
 };
-use crate::table::Spot;
-use text::bytes::{Ordering, equal, order};
-
-// What searches and timeouts change of an advertisement: its waiting reply, and beside it the type of the answer to a lone searcher. A search puts one in where a
-// reply opens, a timeout takes it out to send it; a step that needs the reply alone takes that. Name, type and location stay in their row.
-#[derive(Clone, Copy)]
-pub struct ActiveAdvertisement {
-    pub response_needed: ResponseNeeded,
-    pub answer: [u8; TYPE_SIZE],
-    pub answer_len: usize,
-}
+use std::cmp::Ordering;
+use text::bytes::order;
 
 // How many names are held.
-pub(crate) fn count_of(head: &[u64]) -> usize
-    requires { length head.now ≡ head_places }
+pub(crate) fn count_of(head: &Head) -> usize
     ensures { result ≡ name_count head.now }
 {
     count_in(head, NAME_COUNT, NAMES)
 }
 
-// ---- reading a row
+// ---- reading a row: `i` is below the table's size, as each function asks, and as `spot_of` and the loops over the held rows have it. A type for such an index would be
+// made at each turn of a loop, with the very proof that is given to these functions now, and taken apart again at each array.
 
 // The first `len` of the `size` bytes from a place on, or all of them.
-fn text_in(texts: &[u8], place: usize, size: usize, len: u64) -> &[u8]
+fn text_in(texts: &Texts, place: usize, size: usize, len: u64) -> &[u8]
     requires { place + size ≤ length texts.now }
     ensures { result.now ≡ text_in len place size texts.now }
 {
-    let end = place + least(size_of(len), size);
+    let end = place + (len as usize).min(size);
     &texts[place..end]
 }
 
-// A text of row i, of at most `size` bytes, by the places of its length and of its first byte in the row.
+// A text of row i, of at most `size` bytes, by the places of its length and of its first byte in the row. The three are constants of the layout, which the functions below
+// hand in; a struct of them would be taken apart again in the clause, which speaks of each.
 fn text_at<'a>(
-    numbers: &[u64],
-    texts: &'a [u8],
+    numbers: &Numbers,
+    texts: &'a Texts,
     i: usize,
     length_place: usize,
     place: usize,
     size: usize,
 ) -> &'a [u8]
-    requires { (i < advertisements_max) × NameArrays numbers.now texts.now × (length_place < numbers_width) × (place + size ≤ texts_width) }
+    requires { (i < advertisements_max) × (length_place < numbers_width) × (place + size ≤ texts_width) }
     ensures { result.now ≡ text_in (get_or (row numbers_width i numbers.now) length_place 0) place size (row texts_width i texts.now) }
 {
     let len = numbers[NUMBERS_WIDTH * i + length_place];
     text_in(texts, TEXTS_WIDTH * i + place, size, len)
 }
 
-pub(crate) fn name_at<'a>(numbers: &[u64], texts: &'a [u8], i: usize) -> &'a [u8]
-    requires { (i < advertisements_max) × NameArrays numbers.now texts.now }
+#[tactic(auto, unfolding(crate::specs::Arrays::entry_in))]
+pub(crate) fn name_at<'a>(numbers: &Numbers, texts: &'a Texts, i: usize) -> &'a [u8]
+    requires { i < advertisements_max }
     ensures { result.now ≡ (entry_at i numbers.now texts.now).name }
 {
     text_at(numbers, texts, i, NAME_LENGTH, 0, NAME_SIZE)
 }
 
-pub(crate) fn service_at<'a>(numbers: &[u64], texts: &'a [u8], i: usize) -> &'a [u8]
-    requires { (i < advertisements_max) × NameArrays numbers.now texts.now }
+#[tactic(auto, unfolding(crate::specs::Arrays::entry_in))]
+pub(crate) fn service_at<'a>(numbers: &Numbers, texts: &'a Texts, i: usize) -> &'a [u8]
+    requires { i < advertisements_max }
     ensures { result.now ≡ (entry_at i numbers.now texts.now).service }
 {
     text_at(numbers, texts, i, TYPE_LENGTH, TYPE_PLACE, TYPE_SIZE)
 }
 
-pub(crate) fn location_at<'a>(numbers: &[u64], texts: &'a [u8], i: usize) -> &'a [u8]
-    requires { (i < advertisements_max) × NameArrays numbers.now texts.now }
-    ensures result_value { result.now ≡ (entry_at i numbers.now texts.now).location }
-    ensures result_len_bound { length result.now ≤ location_max }
+fn location_at<'a>(numbers: &Numbers, texts: &'a Texts, i: usize) -> Location<'a>
+    requires { i < advertisements_max }
+    ensures { result.text.now ≡ (entry_at i numbers.now texts.now).location }
 {
-    text_at(
+    let text = text_at(
         numbers,
         texts,
         i,
         LOCATION_LENGTH,
         LOCATION_PLACE,
         LOCATION_SIZE,
-    )
+    );
+    Location { text }
 }
 
-// A type's whole field of a row, from its place in the texts on.
-fn field_at(texts: &[u8], place: usize) -> [u8; TYPE_SIZE]
-    requires { place + type_max ≤ length texts.now }
-    ensures { result ≡ take type_max (drop place texts.now) }
-{
-    let mut out = [0u8; TYPE_SIZE];
-    let mut i = 0;
-    while i < TYPE_SIZE {
-        out[i] = texts[place + i];
-        i += 1;
-    }
-    out
-}
-
-// A waiting reply from its numbers.
+// A waiting reply from its numbers. What stands in a row is the layout that owners in C lend: 0, 1 and 2 are its kinds there.
 #[tactic(auto, unfolding(crate::specs::Arrays::reply_of))]
 fn reply_of(code: u64, due: u64, sender: u64, port: u64, receiver: u64) -> ResponseNeeded
     ensures { result ≡ reply_of code due sender port receiver }
@@ -125,13 +106,13 @@ fn reply_of(code: u64, due: u64, sender: u64, port: u64, receiver: u64) -> Respo
     }
     let to = Endpoint {
         address: low_32(sender),
-        port: low_16(port),
+        port: (port % 65536) as u16,
     };
     ResponseNeeded::Unicast(due, to, low_32(receiver))
 }
 
-pub(crate) fn reply_at(numbers: &[u64], i: usize) -> ResponseNeeded
-    requires { (i < advertisements_max) × (length numbers.now ≡ numbers_size) }
+pub(crate) fn reply_at(numbers: &Numbers, i: usize) -> ResponseNeeded
+    requires { i < advertisements_max }
     ensures { result ≡ reply_at i numbers.now }
 {
     let at = NUMBERS_WIDTH * i;
@@ -144,7 +125,26 @@ pub(crate) fn reply_at(numbers: &[u64], i: usize) -> ResponseNeeded
     )
 }
 
-// ---- changing a row: a part of an array, lent by itself
+// All that row i holds.
+pub(crate) fn active_at<'a>(
+    numbers: &Numbers,
+    texts: &'a Texts,
+    i: usize,
+) -> ActiveAdvertisement<'a>
+    requires { i < advertisements_max }
+    ensures { entry result ≡ entry_at i numbers.now texts.now }
+{
+    ActiveAdvertisement {
+        name: name_at(numbers, texts, i),
+        service: service_at(numbers, texts, i),
+        location: location_at(numbers, texts, i),
+        response_needed: reply_at(numbers, i),
+        answer: text_at(numbers, texts, i, ANSWER_LENGTH, ANSWER_PLACE, TYPE_SIZE),
+    }
+}
+
+// ---- changing a row: a part of an array, lent by itself. It comes as a slice, whose length the contracts ask for, for the reason in links.rt: `as_chunks_mut` says nothing of
+// what the slice ends as, and what does say it needs an arm that never runs.
 
 // The five numbers of a reply.
 fn set_numbers(row: &mut [u64], code: u64, due: u64, sender: u64, port: u64, receiver: u64)
@@ -192,16 +192,20 @@ fn set_active(row: &mut [u64], reply: ResponseNeeded, len: u64)
     row[ANSWER_LENGTH] = len;
 }
 
-// Another answer type.
-fn set_answer(row: &mut [u8], answer: [u8; TYPE_SIZE])
-    requires { length row.old ≡ texts_width }
-    ensures { Answered answer row.old row.new }
+// Another answer type, which fits: each caller has just tested it, or has it of `Search`.
+fn set_answer(row: &mut [u8], answer: &[u8])
+    requires { (length row.old ≡ texts_width) × (length answer.now ≤ type_max) }
+    ensures { Answered (length answer.now) answer.now row.old row.new }
 {
-    let mut i = 0;
-    while i < TYPE_SIZE {
-        row[ANSWER_PLACE + i] = answer[i];
-        i += 1;
-    }
+    put(row, ANSWER_PLACE, answer);
+}
+
+// The type of the row as its answer type, `len` being its length.
+fn set_own_answer(row: &mut [u8])
+    requires { length row.old ≡ texts_width }
+    ensures { (len : ℕ) → Answered len (text_in len service_place type_max row.old) row.old row.new }
+{
+    row.copy_within(TYPE_PLACE..TYPE_PLACE + TYPE_SIZE, ANSWER_PLACE);
 }
 
 // The numbers of a new name, for which no reply waits.
@@ -216,21 +220,21 @@ fn fill_numbers(row: &mut [u64], name_len: u64, service_len: u64, location_len: 
     row[REPLY] = 0;
 }
 
-// Its texts, which fit.
-fn fill_texts(row: &mut [u8], name: &[u8], service: &[u8], location: &[u8])
-    requires { (length row.old ≡ texts_width) × (length name.now ≤ name_max) × (length service.now ≤ type_max) × (length location.now ≤ location_max) }
-    ensures { NewTexts name.now service.now location.now row.new }
+// Its texts.
+fn fill_texts(row: &mut [u8], new: &Service<'_>)
+    requires { length row.old ≡ texts_width }
+    ensures { NewTexts new.now.name.now new.now.service.now new.now.location.text.now row.new }
 {
-    put(row, 0, name);
-    put(row, TYPE_PLACE, service);
-    put(row, LOCATION_PLACE, location);
+    put(row, 0, new.name);
+    put(row, TYPE_PLACE, new.service);
+    put(row, LOCATION_PLACE, new.location.text);
 }
 
 // ---- changing entry i
 
 // Gives it another waiting reply.
-pub(crate) fn store_reply(numbers: &mut [u64], i: usize, reply: ResponseNeeded)
-    requires { (i < advertisements_max) × (length numbers.old ≡ numbers_size) }
+pub(crate) fn store_reply(numbers: &mut Numbers, i: usize, reply: ResponseNeeded)
+    requires { i < advertisements_max }
     ensures { (n : ℕ) (texts : List ℕ) → i < n → n ≤ advertisements_max → entries n numbers.new texts ≡ change_at blank i (λ a. with_active reply a.answer a) (entries n numbers.old texts) }
 {
     let a = NUMBERS_WIDTH * i;
@@ -238,186 +242,119 @@ pub(crate) fn store_reply(numbers: &mut [u64], i: usize, reply: ResponseNeeded)
     set_reply(&mut numbers[a..e], reply);
 }
 
-// A waiting reply that answers in a type of row i, by the places of that type's length and of its first byte in the row.
-fn active_in(
-    needed: ResponseNeeded,
-    numbers: &[u64],
-    texts: &[u8],
+// Opens a waiting reply of entry i that answers in a type, which fits.
+pub(crate) fn open_at(
+    numbers: &mut Numbers,
+    texts: &mut Texts,
     i: usize,
-    length_place: usize,
-    place: usize,
-) -> ActiveAdvertisement
-    requires { (i < advertisements_max) × NameArrays numbers.now texts.now × (length_place < numbers_width) × (place + type_max ≤ texts_width) }
-    ensures { (result.response_needed ≡ needed) × (take result.answer_len result.answer ≡ text_in (get_or (row numbers_width i numbers.now) length_place 0) place type_max (row texts_width i texts.now)) }
+    reply: ResponseNeeded,
+    answer: &[u8],
+)
+    requires { (i < advertisements_max) × (length answer.now ≤ type_max) }
+    ensures { (n : ℕ) → i < n → n ≤ advertisements_max → entries n numbers.new texts.new ≡ change_at blank i (with_active reply answer.now) (entries n numbers.old texts.old) }
 {
-    let field = field_at(texts, TEXTS_WIDTH * i + place);
-    ActiveAdvertisement {
-        response_needed: needed,
-        answer: field,
-        answer_len: size_of(numbers[NUMBERS_WIDTH * i + length_place]),
-    }
+    let at = NUMBERS_WIDTH * i;
+    let place = TEXTS_WIDTH * i;
+    set_active(
+        &mut numbers[at..at + NUMBERS_WIDTH],
+        reply,
+        answer.len() as u64,
+    );
+    set_answer(&mut texts[place..place + TEXTS_WIDTH], answer);
 }
 
-// Takes out what searches and timeouts change of it.
-pub(crate) fn active_at(numbers: &[u64], texts: &[u8], i: usize) -> ActiveAdvertisement
-    requires { (i < advertisements_max) × NameArrays numbers.now texts.now }
-    ensures { (result.response_needed ≡ (entry_at i numbers.now texts.now).needed) × (take result.answer_len result.answer ≡ (entry_at i numbers.now texts.now).answer) }
+// Opens one that answers in the entry's own type.
+pub(crate) fn own_type_at(numbers: &mut Numbers, texts: &mut Texts, i: usize, reply: ResponseNeeded)
+    requires { i < advertisements_max }
+    ensures { (n : ℕ) → i < n → n ≤ advertisements_max → entries n numbers.new texts.new ≡ change_at blank i (with_active reply (entry_at i numbers.old texts.old).service) (entries n numbers.old texts.old) }
 {
-    let needed = reply_at(numbers, i);
-    active_in(needed, numbers, texts, i, ANSWER_LENGTH, ANSWER_PLACE)
-}
-
-// A waiting reply for it that answers in its own type.
-pub(crate) fn own_type_at(
-    numbers: &[u64],
-    texts: &[u8],
-    i: usize,
-    needed: ResponseNeeded,
-) -> ActiveAdvertisement
-    requires { (i < advertisements_max) × NameArrays numbers.now texts.now }
-    ensures { (result.response_needed ≡ needed) × (take result.answer_len result.answer ≡ (entry_at i numbers.now texts.now).service) }
-{
-    active_in(needed, numbers, texts, i, TYPE_LENGTH, TYPE_PLACE)
-}
-
-// Puts it back.
-pub(crate) fn store_active(numbers: &mut [u64], texts: &mut [u8], i: usize, a: ActiveAdvertisement)
-    requires { (i < advertisements_max) × NameArrays numbers.old texts.old }
-    ensures { (n : ℕ) → i < n → n ≤ advertisements_max → entries n numbers.new texts.new ≡ change_at blank i (with_active a.response_needed (take a.answer_len a.answer)) (entries n numbers.old texts.old) }
-{
-    let needed = a.response_needed;
-    let answer = a.answer;
-    let f = NUMBERS_WIDTH * i;
-    let g = f + NUMBERS_WIDTH;
-    set_active(&mut numbers[f..g], needed, number_of(a.answer_len));
-    let s = TEXTS_WIDTH * i;
-    let t = s + TEXTS_WIDTH;
-    set_answer(&mut texts[s..t], answer);
+    let at = NUMBERS_WIDTH * i;
+    let place = TEXTS_WIDTH * i;
+    let len = numbers[at + TYPE_LENGTH];
+    set_active(&mut numbers[at..at + NUMBERS_WIDTH], reply, len);
+    set_own_answer(&mut texts[place..place + TEXTS_WIDTH]);
 }
 
 // ---- the table in byte order of name
 
-fn is_less(o: Ordering) -> bool
-    ensures { result ≡ is_less o }
-{
-    match o {
-        Ordering::Less => true,
-        Ordering::Equal => false,
-        Ordering::Greater => false,
-    }
-}
-
-fn is_below(numbers: &[u64], texts: &[u8], i: usize, name: &[u8]) -> bool
-    requires { (i < advertisements_max) × NameArrays numbers.now texts.now }
-    ensures { result ≡ is_less (order (entry_at i numbers.now texts.now).name name.now) }
-{
-    is_less(order(name_at(numbers, texts, i), name))
-}
-
-fn is_named(numbers: &[u64], texts: &[u8], i: usize, name: &[u8]) -> bool
-    requires { (i < advertisements_max) × NameArrays numbers.now texts.now }
-    ensures { result ≡ equal (entry_at i numbers.now texts.now).name name.now }
-{
-    equal(name_at(numbers, texts, i), name)
-}
-
-// Where a name stands among the held ones, or would stand.
-pub(crate) fn spot_of(head: &[u64], numbers: &[u64], texts: &[u8], name: &[u8]) -> Spot
-    requires { (length head.now ≡ head_places) × NameArrays numbers.now texts.now }
+// Where a name stands among the held ones: `Ok` of its row, or `Err` of the one where it would stand. Not by `binary_search_by`, which wants a slice of rows that are in order:
+// a row lies in two arrays, and an owner may have lent any content. Links are looked through in links.rt, which says why apart.
+pub(crate) fn spot_of(
+    head: &Head,
+    numbers: &Numbers,
+    texts: &Texts,
+    name: &[u8],
+) -> Result<usize, usize>
     ensures { Spotted advertised name.now (names_in head.now numbers.now texts.now) result }
 {
     let n = count_of(head);
-    let mut i = 0;
-    while i < n {
-        if !is_below(numbers, texts, i, name) {
-            let here = is_named(numbers, texts, i, name);
-            return Spot { at: i, known: here };
+    for i in 0..n {
+        match order(name_at(numbers, texts, i), name) {
+            Ordering::Less => {}
+            Ordering::Equal => return Ok(i),
+            Ordering::Greater => return Err(i),
         }
-        i += 1;
     }
-    Spot {
-        at: i,
-        known: false,
-    }
-}
-
-// Room for a row before row i of the first n.
-fn opened(numbers: &mut [u64], texts: &mut [u8], n: usize, i: usize)
-    requires { (i ≤ n) × (n < advertisements_max) × NameArrays numbers.old texts.old }
-    ensures { (numbers.new ≡ moved_up (numbers_width * i) (numbers_width * n) numbers_width numbers.old) × (texts.new ≡ moved_up (texts_width * i) (texts_width * n) texts_width texts.old) }
-{
-    numbers_up(numbers, NUMBERS_WIDTH * i, NUMBERS_WIDTH * n, NUMBERS_WIDTH);
-    bytes_up(texts, TEXTS_WIDTH * i, TEXTS_WIDTH * n, TEXTS_WIDTH);
+    Err(n)
 }
 
 // A new name in row i, whatever stood there.
-fn filled(
-    numbers: &mut [u64],
-    texts: &mut [u8],
-    i: usize,
-    name: &[u8],
-    service: &[u8],
-    location: &[u8],
-)
-    requires { (i < advertisements_max) × (length name.now ≤ name_max) × (length service.now ≤ type_max) × (length location.now ≤ location_max) × NameArrays numbers.old texts.old }
-    ensures { Filled i (newcomer name.now service.now location.now) numbers.old texts.old numbers.new texts.new }
+fn filled(numbers: &mut Numbers, texts: &mut Texts, i: usize, new: &Service<'_>)
+    requires { i < advertisements_max }
+    ensures { Filled i (newcomer new.now.name.now new.now.service.now new.now.location.text.now) numbers.old texts.old numbers.new texts.new }
 {
     let a = NUMBERS_WIDTH * i;
     let e = a + NUMBERS_WIDTH;
     fill_numbers(
         &mut numbers[a..e],
-        number_of(name.len()),
-        number_of(service.len()),
-        number_of(location.len()),
+        new.name.len() as u64,
+        new.service.len() as u64,
+        new.location.text.len() as u64,
     );
     let s = TEXTS_WIDTH * i;
     let t = s + TEXTS_WIDTH;
-    fill_texts(&mut texts[s..t], name, service, location);
+    fill_texts(&mut texts[s..t], new);
 }
 
-// A new name before row i of the first n.
+// A new name before row i of the first n. Links have the like in links.rt, in one array.
 pub(crate) fn put_in(
-    numbers: &mut [u64],
-    texts: &mut [u8],
+    numbers: &mut Numbers,
+    texts: &mut Texts,
     n: usize,
     i: usize,
-    name: &[u8],
-    service: &[u8],
-    location: &[u8],
+    new: &Service<'_>,
 )
-    requires { (i ≤ n) × (n < advertisements_max) × (length name.now ≤ name_max) × (length service.now ≤ type_max) × (length location.now ≤ location_max) × NameArrays numbers.old texts.old }
-    ensures { entries (suc n) numbers.new texts.new ≡ insert_at i (newcomer name.now service.now location.now) (entries n numbers.old texts.old) }
+    requires { (i ≤ n) × (n < advertisements_max) }
+    ensures { entries (suc n) numbers.new texts.new ≡ insert_at i (newcomer new.now.name.now new.now.service.now new.now.location.text.now) (entries n numbers.old texts.old) }
 {
-    opened(numbers, texts, n, i);
-    filled(numbers, texts, i, name, service, location);
+    let at = NUMBERS_WIDTH * i;
+    numbers.copy_within(at..NUMBERS_WIDTH * n, at + NUMBERS_WIDTH);
+    let place = TEXTS_WIDTH * i;
+    texts.copy_within(place..TEXTS_WIDTH * n, place + TEXTS_WIDTH);
+    filled(numbers, texts, i, new);
 }
 
 // A new name in the place of row i.
 pub(crate) fn put_over(
-    numbers: &mut [u64],
-    texts: &mut [u8],
+    numbers: &mut Numbers,
+    texts: &mut Texts,
     n: usize,
     i: usize,
-    name: &[u8],
-    service: &[u8],
-    location: &[u8],
+    new: &Service<'_>,
 )
-    requires { (i < n) × (n ≤ advertisements_max) × (length name.now ≤ name_max) × (length service.now ≤ type_max) × (length location.now ≤ location_max) × NameArrays numbers.old texts.old }
-    ensures { entries n numbers.new texts.new ≡ set (entries n numbers.old texts.old) i (newcomer name.now service.now location.now) }
+    requires { (i < n) × (n ≤ advertisements_max) }
+    ensures { entries n numbers.new texts.new ≡ set (entries n numbers.old texts.old) i (newcomer new.now.name.now new.now.service.now new.now.location.text.now) }
 {
-    filled(numbers, texts, i, name, service, location);
+    filled(numbers, texts, i, new);
 }
 
 // The first n rows without row i.
-pub(crate) fn taken_out(numbers: &mut [u64], texts: &mut [u8], n: usize, i: usize)
-    requires { (i < n) × (n ≤ advertisements_max) × NameArrays numbers.old texts.old }
+pub(crate) fn taken_out(numbers: &mut Numbers, texts: &mut Texts, n: usize, i: usize)
+    requires { (i < n) × (n ≤ advertisements_max) }
     ensures { entries (n - 1) numbers.new texts.new ≡ remove_at i (entries n numbers.old texts.old) }
 {
-    numbers_down(
-        numbers,
-        NUMBERS_WIDTH * i,
-        NUMBERS_WIDTH * (n - 1),
-        NUMBERS_WIDTH,
-    );
-    bytes_down(texts, TEXTS_WIDTH * i, TEXTS_WIDTH * (n - 1), TEXTS_WIDTH);
+    let at = NUMBERS_WIDTH * i;
+    numbers.copy_within(at + NUMBERS_WIDTH..NUMBERS_WIDTH * n, at);
+    let place = TEXTS_WIDTH * i;
+    texts.copy_within(place + TEXTS_WIDTH..TEXTS_WIDTH * n, place);
 }

@@ -1,5 +1,6 @@
 // How many bytes of outbox a call needs: those of the records that it would write (document 02, change 1). A call asks before it writes; its owner may ask before it calls,
-// and what is answered holds until the next call. The contracts cite the formula, specs/Need.antt, through `need_of`, by which refusal 2 goes.
+// and what is answered holds until the next call. The arrays come one by one, as an owner in C lends them.
+// The contracts cite the formula, specs/Need.antt, through `need_of`, by which refusal 2 goes.
 ghost use Rattle.std.specs.Prelude.{◌≡◌, cond, List, ℕ, ◌+◌, ◌*◌, ◌≤◌, leb};
 ghost use Rattle.engine.specs.Sizes.{advertisements_max, subscriptions_max, sources_max};
 ghost use Rattle.engine.specs.Table.{known};
@@ -7,17 +8,16 @@ ghost use Rattle.engine.specs.Held.{Text, advertised};
 ghost use Rattle.engine.specs.Calls.{NewLink, NewAddress, Subscribe, Advertise, Deadvertise, Refresh, Timeout};
 ghost use Rattle.engine.specs.Need.{searches_count};
 ghost use Rattle.engine.specs.Engine.{need_of};
-ghost use Rattle.engine.specs.Arrays.{timer_in, name_count, names_in, searches_in, SearchArrays, engine, held};
+ghost use Rattle.engine.specs.Arrays.{timer_in, name_count, names_in, searches_in, engine, held};
 
 use crate::head::timer_in;
 use crate::pending::due_in;
 use crate::sizes::{Head, Links, Numbers, RECORD_SIZE, Searches, Texts};
 use crate::source::up_count;
-use crate::{address, links, names, news, subscription};
+use crate::{links, names, news, subscription};
 
 // Advertisements plus searches, which count 1 where a subscription is for all.
-fn entry_count(head: &[u64], searches: &[u8]) -> usize
-    requires { SearchArrays head.now searches.now }
+fn entry_count(head: &Head, searches: &Searches) -> usize
     ensures { (result ≡ name_count head.now + searches_count (searches_in head.now searches.now)) × (result ≤ advertisements_max + subscriptions_max) }
 {
     let n = names::count_of(head);
@@ -34,7 +34,7 @@ pub fn of_announcement(head: &Head, links: &Links) -> usize
     RECORD_SIZE * up_count(head, links)
 }
 
-// `deadvertise` of a name that is held or not: the same, if it is.
+// `deadvertise` of a name that is held or not: the same, if it is. A bool, since the definitions have all of the records, or none, by a bool.
 pub(crate) fn of_byebye(head: &Head, links: &Links, is_held: bool) -> usize
     ensures { (searches numbers texts : List ℕ) (name : Text) (room : ℕ) → is_held ≡ known advertised name (names_in head.now numbers texts) → result ≡ need_of (held (engine head.now links.now searches numbers texts)) (Deadvertise name room) }
 {
@@ -55,7 +55,7 @@ pub fn of_deadvertise(
     ensures { (searches : List ℕ) (room : ℕ) → result ≡ need_of (held (engine head.now links.now searches numbers.now texts.now)) (Deadvertise name.now room) }
 {
     let spot = names::spot_of(head, numbers, texts, name);
-    of_byebye(head, links, spot.known)
+    of_byebye(head, links, spot.is_ok())
 }
 
 // `refresh`: advertisements plus searches, times addresses on up links.
@@ -71,9 +71,9 @@ pub fn of_new_link(head: &Head, links: &Links, searches: &Searches, index: u32, 
     ensures { (numbers texts : List ℕ) (outcome room : ℕ) → result ≡ need_of (held (engine head.now links.now searches.now numbers texts)) (NewLink index flags outcome room) }
 {
     let held = links::lookup(head, links, index);
-    if news::turns_up(held, flags) {
+    if news::turns_up(&held, flags) {
         let n = entry_count(head, searches);
-        return RECORD_SIZE * (n * address::count_of(held.link));
+        return RECORD_SIZE * (n * news::addresses_of(&held).len());
     }
     0
 }
@@ -89,16 +89,15 @@ pub fn of_new_address(
     ensures { (numbers texts : List ℕ) (room : ℕ) → result ≡ need_of (held (engine head.now links.now searches.now numbers texts)) (NewAddress index address.now room) }
 {
     let held = links::lookup(head, links, index);
-    let up = held.link.up;
-    if news::is_stored(held, address) & up {
+    if news::is_stored(&held, address) & news::is_up(&held) {
         return RECORD_SIZE * entry_count(head, searches);
     }
     0
 }
 
 // The records of the salvo, if that is due.
-fn salvo_count(head: &[u64], searches: &[u8], up: usize, time: u64) -> usize
-    requires { SearchArrays head.now searches.now × (up ≤ sources_max) }
+fn salvo_count(head: &Head, searches: &Searches, up: usize, time: u64) -> usize
+    requires { up ≤ sources_max }
     ensures { (result ≡ cond (leb (timer_in head.now).next_salvo time) ((name_count head.now + searches_count (searches_in head.now searches.now)) * up) 0) × (result ≤ (advertisements_max + subscriptions_max) * sources_max) }
 {
     let timer = timer_in(head);

@@ -1,12 +1,13 @@
-// Records in the lent outbox: document 01, 'Outbox'. Each message is built in the part of the outbox behind its record's head.
-// The contracts cite specs/Layout.antt: `Sends` says which records were written from record k on.
-ghost use Rattle.std.specs.Prelude.{◌≡◌, [], ◌∷◌, ◌+◌, ◌-◌, ◌*◌, ◌≤◌, length, take, drop, replicate};
+// Records at the start of the lent outbox: document 01, 'Outbox'. Each message is built in the part of the outbox behind its record's head.
+// The contracts cite specs/Layout.antt: `Sent` says which records were written. They ask for room for a record: what is left of the outbox comes as a slice, since
+// `first_chunk_mut`, which would lend an array of a record's size, needs an arm that never runs.
+ghost use Rattle.std.specs.Prelude.{◌≡◌, [], ◌∷◌, ◌+◌, ◌-◌, ◌≤◌, length, take, drop, replicate};
 ghost use Rattle.text.specs.Put.{Put};
-ghost use Rattle.engine.specs.Sizes.{record_size, head_size, location_max};
+ghost use Rattle.engine.specs.Sizes.{record_size, head_size};
 ghost use Rattle.engine.specs.Records.{SearchFrom, NotifyFrom, ByeByeFrom, ResponseFrom};
-ghost use Rattle.engine.specs.Layout.{head_of, framed, Sends};
+ghost use Rattle.engine.specs.Layout.{head_of, framed, Sent};
 
-use crate::advertisement::Endpoint;
+use crate::advertisement::{Endpoint, Location};
 use crate::buffer::put;
 use crate::location::rewrite_host;
 use crate::sizes::{RECORD_HEAD, RECORD_SIZE, REWRITTEN_SIZE};
@@ -16,44 +17,28 @@ fn clear(buf: &mut [u8], at: usize, n: usize) -> usize
     requires { at + n ≤ length buf.old }
     ensures { Put buf.old at (replicate n 0) buf.new result }
 {
-    let mut i = 0;
-    let mut next = at;
-    while i < n {
-        buf[next] = 0;
-        next += 1;
-        i += 1;
-    }
-    next
+    buf[at..at + n].fill(0);
+    at + n
 }
 
-// The head of a record whose message has `len` bytes.
-fn head(to: Endpoint, source: u32, len: usize) -> [u8; RECORD_HEAD]
-    ensures { result ≡ head_of to source len }
+// Writes the head of a record whose message has `len` bytes, and answers the place behind it; buffer and place side by side, as in text's `put`.
+fn put_head(buf: &mut [u8], at: usize, to: Endpoint, source: u32, len: u16) -> usize
+    requires { at + head_size ≤ length buf.old }
+    ensures put { Put buf.old at (head_of to source len) buf.new result }
+    ensures place { result ≡ at + head_size }
 {
-    [
-        (to.address / 16777216 % 256) as u8,
-        (to.address / 65536 % 256) as u8,
-        (to.address / 256 % 256) as u8,
-        (to.address % 256) as u8,
-        (to.port / 256 % 256) as u8,
-        (to.port % 256) as u8,
-        (source / 16777216 % 256) as u8,
-        (source / 65536 % 256) as u8,
-        (source / 256 % 256) as u8,
-        (source % 256) as u8,
-        (len / 256 % 256) as u8,
-        (len % 256) as u8,
-    ]
+    let port = put(buf, at, &to.address.to_be_bytes());
+    let from = put(buf, port, &to.port.to_be_bytes());
+    let size = put(buf, from, &source.to_be_bytes());
+    put(buf, size, &len.to_be_bytes())
 }
 
-// Puts head and zeros round the message of `len` bytes that stands in record k.
-fn frame(outbox: &mut [u8], k: usize, to: Endpoint, source: u32, len: usize)
-    requires { (record_size * (k + 1) ≤ length outbox.old) × (len ≤ record_size - head_size) }
-    ensures { Put outbox.old (record_size * k) (framed to source (take len (drop (record_size * k + head_size) outbox.old))) outbox.new (record_size * (k + 1)) }
+// Puts head and zeros round the message of `len` bytes that stands in the first record.
+fn frame(outbox: &mut [u8], to: Endpoint, source: u32, len: usize)
+    requires { (record_size ≤ length outbox.old) × (len ≤ record_size - head_size) }
+    ensures { Put outbox.old 0 (framed to source (take len (drop head_size outbox.old))) outbox.new record_size }
 {
-    let start = RECORD_SIZE * k;
-    let h = head(to, source, len);
-    let at = put(outbox, start, &h);
+    let at = put_head(outbox, 0, to, source, len as u16);
     clear(outbox, at + len, RECORD_SIZE - RECORD_HEAD - len);
 }
 
@@ -63,71 +48,67 @@ const GROUP: Endpoint = Endpoint {
     port: 1900,
 };
 
-// Record k: a search for a type, to the group. Answers the next record's number.
-pub(crate) fn search_on(outbox: &mut [u8], k: usize, source: u32, service: &[u8]) -> usize
-    requires { record_size * (k + 1) ≤ length outbox.old }
-    ensures { Sends outbox.old k (SearchFrom source service.now ∷ []) outbox.new result }
+// ---- one record each. A build that is refused is a message of no bytes in the definitions, and so `unwrap_or(0)` here.
+
+// A search for a type, to the group.
+pub(crate) fn search_on(outbox: &mut [u8], source: u32, service: &[u8])
+    requires { record_size ≤ length outbox.old }
+    ensures { Sent (SearchFrom source service.now ∷ []) outbox.old outbox.new 1 }
 {
-    let at = RECORD_SIZE * k + RECORD_HEAD;
-    let built = message::build_search(&mut outbox[at..], service);
-    frame(outbox, k, GROUP, source, built.len);
-    k + 1
+    let len = message::build_search(&mut outbox[RECORD_HEAD..], service).unwrap_or(0);
+    frame(outbox, GROUP, source, len);
 }
 
-// Record k: that a service is there, to the group, its location as seen from the source. Answers the next record's number.
+// That a service is there, to the group, its location as seen from the source.
 pub(crate) fn notify_on(
     outbox: &mut [u8],
-    k: usize,
     source: u32,
     service: &[u8],
     name: &[u8],
-    location: &[u8],
-) -> usize
-    requires { (record_size * (k + 1) ≤ length outbox.old) × (length location.now ≤ location_max) }
-    ensures { Sends outbox.old k (NotifyFrom source service.now name.now location.now ∷ []) outbox.new result }
+    location: Location<'_>,
+)
+    requires { record_size ≤ length outbox.old }
+    ensures { Sent (NotifyFrom source service.now name.now location.entry.text.now ∷ []) outbox.old outbox.new 1 }
 {
     let mut url = [0u8; REWRITTEN_SIZE];
-    let len = rewrite_host(&mut url, location, source);
-    let at = RECORD_SIZE * k + RECORD_HEAD;
-    let built = message::build_notify(&mut outbox[at..], service, name, &url[..len]);
-    frame(outbox, k, GROUP, source, built.len);
-    k + 1
+    let url_len = rewrite_host(&mut url, location.text, source);
+    let len = message::build_notify(
+        &mut outbox[RECORD_HEAD..],
+        service,
+        name,
+        &url[..url_len],
+    ).unwrap_or(0);
+    frame(outbox, GROUP, source, len);
 }
 
-// Record k: that a service goes, to the group. Answers the next record's number.
-pub(crate) fn byebye_on(
-    outbox: &mut [u8],
-    k: usize,
-    source: u32,
-    service: &[u8],
-    name: &[u8],
-) -> usize
-    requires { record_size * (k + 1) ≤ length outbox.old }
-    ensures { Sends outbox.old k (ByeByeFrom source service.now name.now ∷ []) outbox.new result }
+// That a service goes, to the group.
+pub(crate) fn byebye_on(outbox: &mut [u8], source: u32, service: &[u8], name: &[u8])
+    requires { record_size ≤ length outbox.old }
+    ensures { Sent (ByeByeFrom source service.now name.now ∷ []) outbox.old outbox.new 1 }
 {
-    let at = RECORD_SIZE * k + RECORD_HEAD;
-    let built = message::build_byebye(&mut outbox[at..], service, name);
-    frame(outbox, k, GROUP, source, built.len);
-    k + 1
+    let len = message::build_byebye(&mut outbox[RECORD_HEAD..], service, name).unwrap_or(0);
+    frame(outbox, GROUP, source, len);
 }
 
-// Record k: the reply to a lone searcher, from the address that its search reached. Answers the next record's number.
+// The reply to a lone searcher, from the address that its search reached.
 pub(crate) fn send_response(
     outbox: &mut [u8],
-    k: usize,
     source: u32,
     to: Endpoint,
     service: &[u8],
     name: &[u8],
-    location: &[u8],
-) -> usize
-    requires { (record_size * (k + 1) ≤ length outbox.old) × (length location.now ≤ location_max) }
-    ensures { Sends outbox.old k (ResponseFrom source to service.now name.now location.now ∷ []) outbox.new result }
+    location: Location<'_>,
+)
+    requires { record_size ≤ length outbox.old }
+    ensures { Sent (ResponseFrom source to service.now name.now location.entry.text.now ∷ []) outbox.old outbox.new 1 }
 {
     let mut url = [0u8; REWRITTEN_SIZE];
-    let len = rewrite_host(&mut url, location, source);
-    let at = RECORD_SIZE * k + RECORD_HEAD;
-    let built = message::build_response(&mut outbox[at..], service, name, &url[..len]);
-    frame(outbox, k, to, source, built.len);
-    k + 1
+    let url_len = rewrite_host(&mut url, location.text, source);
+    let len = message::build_response(
+        &mut outbox[RECORD_HEAD..],
+        service,
+        name,
+        &url[..url_len],
+    ).unwrap_or(0);
+    frame(outbox, to, source, len);
 }

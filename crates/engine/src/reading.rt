@@ -12,21 +12,14 @@ pub(crate) fn type_of(said: Message) -> Place
     match said {
         Message::NotifyAlive {
             notification_type,
-            unique_service_name: _,
-            location: _,
-        } => notification_type,
-        Message::NotifyByeBye {
+            ..
+        }
+        | Message::NotifyByeBye {
             notification_type,
-            unique_service_name: _,
+            ..
         } => notification_type,
-        Message::Search {
-            search_target,
-            maximum_wait_sec: _,
-        } => search_target,
-        Message::Response {
-            search_target,
-            unique_service_name: _,
-            location: _,
-        } => search_target,
+        Message::Search { search_target, .. } | Message::Response { search_target, .. } => {
+            search_target
+        }
     }
 }

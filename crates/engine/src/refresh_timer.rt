@@ -2,9 +2,11 @@
 // The contracts cite specs/RefreshTimer.antt.
 ghost use Rattle.std.specs.Prelude.{◌≡◌, ◌≤◌};
 ghost use Rattle.engine.specs.Sizes.{time_max};
-ghost use Rattle.engine.specs.RefreshTimer.{time_refusal, seed_byte, period, timer_new, timer_step, answer_for, new_answer, reset_answer, update_answer};
+ghost use Rattle.engine.specs.RefreshTimer.{time_refusal, seed_byte, period, timer_new, timer_step, answer_for, timer_of, new_answer, reset_answer, update_answer};
+ghost use Rattle.engine.specs.Refusals.{refused_as};
+ghost use Rattle.engine.specs.declared.refusals.Refusal.TheVariants.{TimeLate};
 
-use crate::refusals::TIME_LATE;
+use crate::refusals::{Refusal, of_time};
 use crate::sizes::TIME_MAX;
 
 #[derive(Clone, Copy)]
@@ -14,23 +16,25 @@ pub struct RefreshTimer {
     pub phase: u8,
 }
 
-// What a call of the timer answers: refusal number 1 for a time above `TIME_MAX`, else 0, and the timer after the call.
+// A call was refused, since its time is above `TIME_MAX`: the timer with which the caller may go on.
 #[derive(Clone, Copy)]
-pub struct TimerAnswer {
-    pub refusal: u32,
+pub struct Late {
     pub timer: RefreshTimer,
 }
 
+impl From<Late> for Refusal {
+    ghost from_gives = { λ _ refusal. refusal ≡ TimeLate };
+
+    fn from(_late: Late) -> Refusal {
+        Refusal::TimeLate
+    }
+}
+
 // Byte number `phase` of the seed, the lowest being number 0. Phases count modulo 4.
-fn seed_byte(seed: u32, phase: u8) -> u32
+fn seed_byte(seed: u32, phase: u8) -> u8
     ensures { result ≡ seed_byte seed phase }
 {
-    match phase % 4 {
-        0 => seed % 256,
-        1 => seed / 256 % 256,
-        2 => seed / 65536 % 256,
-        _ => seed / 16777216 % 256,
-    }
+    seed.to_le_bytes()[usize::from(phase % 4)]
 }
 
 // The milliseconds from the salvo of a phase to the next one.
@@ -38,7 +42,7 @@ fn seed_byte(seed: u32, phase: u8) -> u32
 fn period_of(seed: u32, phase: u8) -> u64
     ensures { result ≡ period seed phase }
 {
-    let offset = 10 * (seed_byte(seed, phase) as u64);
+    let offset = 10 * u64::from(seed_byte(seed, phase));
     if phase % 4 == 3 {
         return 800000 + offset;
     }
@@ -46,7 +50,7 @@ fn period_of(seed: u32, phase: u8) -> u64
 }
 
 // One step, if the salvo is due: never more, however late the call.
-pub(crate) fn stepped(timer: RefreshTimer, time: u64) -> RefreshTimer
+fn stepped(timer: RefreshTimer, time: u64) -> RefreshTimer
     requires { time ≤ time_max }
     ensures { result ≡ timer_step timer time }
 {
@@ -55,65 +59,56 @@ pub(crate) fn stepped(timer: RefreshTimer, time: u64) -> RefreshTimer
         return timer;
     }
     RefreshTimer {
-        random_seed: timer.random_seed,
         next_salvo: due + period_of(timer.random_seed, timer.phase),
         phase: (timer.phase % 4 + 1) % 4,
+        ..timer
     }
 }
 
-// Refusal 1 for a time that no call may bear, else 0.
-pub fn time_refusal(time: u64) -> u32
-    ensures { result ≡ time_refusal time }
+// Refuses a time that no call may bear.
+pub fn time_refusal(time: u64) -> Result<(), Refusal>
+    ensures { refused_as result ≡ time_refusal time }
 {
-    if time <= TIME_MAX { 0 } else { TIME_LATE }
-}
-
-// The timer after `updated`.
-fn rolled(timer: RefreshTimer, time: u64) -> RefreshTimer
-    ensures { result ≡ (update_answer timer time).timer }
-{
-    if TIME_MAX < time {
-        return timer;
-    }
-    stepped(timer, time)
+    of_time(time)
 }
 
 // The answer to a call that bears `time`, by what the timer is if that is refused, and if it is not.
-fn answer_for(time: u64, refused: RefreshTimer, accepted: RefreshTimer) -> TimerAnswer
+#[tactic(auto, unfolding(crate::specs::RefreshTimer::answer_for))]
+fn answer_for(
+    time: u64,
+    refused: RefreshTimer,
+    accepted: RefreshTimer,
+) -> Result<RefreshTimer, Late>
     ensures { result ≡ answer_for time refused accepted }
 {
-    if time <= TIME_MAX {
-        return TimerAnswer {
-            refusal: 0,
-            timer: accepted,
-        };
+    if TIME_MAX < time {
+        return Err(Late { timer: refused });
     }
-    TimerAnswer {
-        refusal: TIME_LATE,
-        timer: refused,
-    }
+    Ok(accepted)
 }
 
+#[tactic(auto, unfolding(crate::specs::RefreshTimer::timer_new))]
 pub(crate) fn timer_at(random_seed: u32, next_salvo: u64) -> RefreshTimer
     ensures { result ≡ timer_new random_seed next_salvo }
 {
     RefreshTimer {
-        random_seed: random_seed,
-        next_salvo: next_salvo,
+        random_seed,
+        next_salvo,
         phase: 0,
     }
 }
 
 impl RefreshTimer {
     // A timer whose first salvo is due at once. Refused: one of that seed at time 0.
-    pub fn new(random_seed: u32, time: u64) -> TimerAnswer
+    pub fn new(random_seed: u32, time: u64) -> Result<RefreshTimer, Late>
         ensures { result ≡ new_answer random_seed time }
     {
         answer_for(time, timer_at(random_seed, 0), timer_at(random_seed, time))
     }
 
     // Begins anew, as after the network was away. Refused: the timer as it was.
-    pub fn reset(self, time: u64) -> TimerAnswer
+    #[tactic(auto, unfolding(crate::specs::RefreshTimer::timer_reset))]
+    pub fn reset(self, time: u64) -> Result<RefreshTimer, Late>
         ensures { result ≡ reset_answer self time }
     {
         answer_for(time, self, timer_at(self.random_seed, time))
@@ -127,19 +122,22 @@ impl RefreshTimer {
     }
 
     // Rolls the timer on by one salvo, if that is due. Refused: the timer as it was.
-    pub fn updated(self, time: u64) -> TimerAnswer
+    #[tactic(auto, unfolding(crate::specs::RefreshTimer::answer_for))]
+    pub fn updated(self, time: u64) -> Result<RefreshTimer, Late>
         ensures { result ≡ update_answer self time }
     {
-        answer_for(time, self, rolled(self, time))
+        if TIME_MAX < time {
+            return Err(Late { timer: self });
+        }
+        Ok(stepped(self, time))
     }
 
-    // The same in place, for an owner that lends its timer: the answer is the refusal number.
-    pub fn update_refresh(&mut self, time: u64) -> u32
-        ensures { (self.new ≡ (update_answer self.old time).timer) × (result ≡ time_refusal time) }
+    // The same in place, for an owner that lends its timer.
+    pub fn update_refresh(&mut self, time: u64) -> Result<(), Refusal>
+        ensures { (self.new ≡ timer_of (update_answer self.old time)) × (refused_as result ≡ time_refusal time) }
     {
         let before = *self;
-        let after = rolled(before, time);
-        *self = after;
-        time_refusal(time)
+        *self = before.updated(time)?;
+        Ok(())
     }
 }

@@ -1,107 +1,80 @@
 // The replies that wait, and what a search and a handle_timeout make of them: document 01, 'Engine and ledger'.
-ghost use Rattle.std.specs.Prelude.{◌≡◌, true, [], ◌≤◌, min};
+ghost use Rattle.std.specs.Prelude.{◌≡◌, true, [], ◌≤◌};
 ghost use Rattle.engine.specs.Records.{is_due};
-ghost use Rattle.engine.specs.Replies.{is_none, asked_need, waits, sooner, same_sender, is_alone, is_group};
+ghost use Rattle.engine.specs.Replies.{due_at, is_none, asked_need, waits, sooner, same_sender, is_alone, is_group};
 ghost use Rattle.engine.specs.Passes.{asked_by};
 
 use crate::advertisement::{Endpoint, ResponseNeeded};
-
-// Whether a reply waits: 1, or 0.
-pub(crate) fn wait_of(needed: ResponseNeeded) -> usize
-    ensures { (result ≡ waits needed) × (result ≤ 1) }
-{
-    match needed {
-        ResponseNeeded::None => 0,
-        ResponseNeeded::Multicast(_) => 1,
-        ResponseNeeded::Unicast(_, _, _) => 1,
-    }
-}
-
-// The lesser of two instants.
-fn earlier(a: u64, b: u64) -> u64
-    ensures { result ≡ min a b }
-{
-    if a < b { a } else { b }
-}
-
-// The earlier of an instant and that of a reply, if one waits.
-pub(crate) fn sooner_of(time: u64, needed: ResponseNeeded) -> u64
-    ensures { result ≡ sooner time needed }
-{
-    match needed {
-        ResponseNeeded::None => time,
-        ResponseNeeded::Multicast(due) => earlier(time, due),
-        ResponseNeeded::Unicast(due, _, _) => earlier(time, due),
-    }
-}
 
 // Whether two datagrams came from the same address and port.
 fn same_sender(s: Endpoint, t: Endpoint) -> bool
     ensures { result ≡ same_sender s t }
 {
-    (s.address == t.address) & (s.port == t.port)
+    s == t
 }
 
-// Whether a search that asks for a name opens a reply: none waits for it.
-pub(crate) fn opens(needed: ResponseNeeded) -> bool
-    ensures { result ≡ is_none needed }
-{
-    match needed {
-        ResponseNeeded::None => true,
-        ResponseNeeded::Multicast(_) => false,
-        ResponseNeeded::Unicast(_, _, _) => false,
-    }
-}
-
-// The waiting reply of a name after a search that asks for it: one opens, or the searcher joins the one that waits.
-pub(crate) fn asked_reply(
-    needed: ResponseNeeded,
-    due: u64,
-    sender: Endpoint,
-    receiver: u32,
-) -> ResponseNeeded
-    ensures { result ≡ asked_need true due (asked_by [] sender receiver) needed }
-{
-    match needed {
-        ResponseNeeded::None => ResponseNeeded::Unicast(due, sender, receiver),
-        ResponseNeeded::Multicast(_) => needed,
-        ResponseNeeded::Unicast(opened_for, opener, _) => {
-            if same_sender(opener, sender) {
-                return needed;
-            }
-            ResponseNeeded::Multicast(opened_for)
+impl ResponseNeeded {
+    // The instant of a reply, if one waits.
+    fn due(self) -> Option<u64>
+        ensures { result ≡ due_at self }
+    {
+        match self {
+            ResponseNeeded::None => None,
+            ResponseNeeded::Multicast(due) | ResponseNeeded::Unicast(due, _, _) => Some(due),
         }
     }
-}
 
-// Whether a reply waits that is due.
-pub(crate) fn is_due(needed: ResponseNeeded, time: u64) -> bool
-    ensures { result ≡ is_due time needed }
-{
-    match needed {
-        ResponseNeeded::None => false,
-        ResponseNeeded::Multicast(due) => due <= time,
-        ResponseNeeded::Unicast(due, _, _) => due <= time,
+    // Whether none waits: then a search that asks for the name opens one.
+    pub(crate) fn is_none(self) -> bool
+        ensures { result ≡ is_none self }
+    {
+        self.due().is_none()
     }
-}
 
-// Whether a reply to a lone searcher, or to the group, waits: 1, or 0.
-pub(crate) fn alone_of(needed: ResponseNeeded) -> usize
-    ensures { (result ≡ is_alone needed) × (result ≤ 1) }
-{
-    match needed {
-        ResponseNeeded::None => 0,
-        ResponseNeeded::Multicast(_) => 0,
-        ResponseNeeded::Unicast(_, _, _) => 1,
+    // How many wait: 1, or 0.
+    pub(crate) fn waits(self) -> usize
+        ensures { (result ≡ waits self) × (result ≤ 1) }
+    {
+        usize::from(self.due().is_some())
     }
-}
 
-pub(crate) fn group_of(needed: ResponseNeeded) -> usize
-    ensures { (result ≡ is_group needed) × (result ≤ 1) }
-{
-    match needed {
-        ResponseNeeded::None => 0,
-        ResponseNeeded::Multicast(_) => 1,
-        ResponseNeeded::Unicast(_, _, _) => 0,
+    // The earlier of an instant and that of the reply, if one waits.
+    pub(crate) fn sooner(self, time: u64) -> u64
+        ensures { result ≡ sooner time self }
+    {
+        self.due().map_or(time, |due| time.min(due))
+    }
+
+    // The waiting reply of a name after a search that asks for it: one opens, or the searcher joins the one that waits.
+    pub(crate) fn asked(self, due: u64, sender: Endpoint, receiver: u32) -> ResponseNeeded
+        ensures { result ≡ asked_need true due (asked_by [] sender receiver) self }
+    {
+        match self {
+            ResponseNeeded::None => ResponseNeeded::Unicast(due, sender, receiver),
+            ResponseNeeded::Unicast(opened_for, opener, _) if !same_sender(opener, sender) => {
+                ResponseNeeded::Multicast(opened_for)
+            }
+            _ => self,
+        }
+    }
+
+    // Whether one waits that is due.
+    pub(crate) fn is_due(self, time: u64) -> bool
+        ensures { result ≡ is_due time self }
+    {
+        self.due().is_some_and(|due| due <= time)
+    }
+
+    // Whether one waits for a lone searcher, or for the group: 1, or 0.
+    pub(crate) fn alone(self) -> usize
+        ensures { (result ≡ is_alone self) × (result ≤ 1) }
+    {
+        usize::from(matches!(self, ResponseNeeded::Unicast(_, _, _)))
+    }
+
+    pub(crate) fn group(self) -> usize
+        ensures { (result ≡ is_group self) × (result ≤ 1) }
+    {
+        usize::from(matches!(self, ResponseNeeded::Multicast(_)))
     }
 }

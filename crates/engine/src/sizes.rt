@@ -102,7 +102,7 @@ pub const TEXTS_WIDTH: usize = ANSWER_PLACE + TYPE_SIZE;
 
 pub const TEXTS_SIZE: usize = TEXTS_WIDTH * NAMES;
 
-// What an owner lends.
+// What an owner lends: numbers, whatever they stand for. A row is written by `as`, which the check sees lose nothing; of `From` each proof of a row would have to cite the clause.
 pub type Head = [u64; HEAD_PLACES];
 
 pub type Links = [u64; LINK_NUMBERS];

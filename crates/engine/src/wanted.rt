@@ -1,10 +1,9 @@
 // What a search's target asks for, found once a search: document 01, '`target_match` and `rewrite_host`'. The contracts cite specs/Wanted.antt and specs/Target.antt.
-ghost use Rattle.std.specs.Prelude.{◌≡◌, List, ℕ, ◌<◌, length};
+ghost use Rattle.std.specs.Prelude.{◌≡◌, List, ℕ, ◌<◌, length, Some};
 ghost use Rattle.text.specs.Bytes.{equal};
-ghost use Rattle.engine.specs.Target.{ssdp_all, target_match};
+ghost use Rattle.engine.specs.Target.{ssdp_all, at_least, target_match};
 ghost use Rattle.engine.specs.Wanted.{wanted_of, later_in};
 
-use text::number::Number;
 use text::{bytes, number};
 
 const COLON: u8 = b':';
@@ -23,14 +22,20 @@ pub(crate) fn wanted_of(search: &[u8]) -> Wanted
     if bytes::equal(search, b"ssdp:all") {
         return Wanted::All;
     }
-    let i = bytes::find_last(search, COLON);
-    if search.len() <= i {
+    let Some(i) = bytes::find_last(search, COLON) else {
         return Wanted::Same;
-    }
-    let Number::Value(w) = number::u64_of(&search[i + 1..]) else {
+    };
+    let Some(w) = number::parse(&search[i + 1..]) else {
         return Wanted::Same;
     };
     Wanted::Version(i, w)
+}
+
+// Whether what is offered is a number that is at least the wanted one.
+fn at_least(wanted: u64, offered: Option<u64>) -> bool
+    ensures { result ≡ at_least (Some wanted) offered }
+{
+    offered.is_some_and(|offered| wanted <= offered)
 }
 
 // Whether a candidate has the same text before a colon at place i, and behind it a number that is at least the wanted one.
@@ -47,10 +52,7 @@ fn is_later(search: &[u8], i: usize, wanted: u64, candidate: &[u8]) -> bool
     if !bytes::equal(&search[..i], &candidate[..i]) {
         return false;
     }
-    let Number::Value(offered) = number::u64_of(&candidate[i + 1..]) else {
-        return false;
-    };
-    wanted <= offered
+    at_least(wanted, number::parse(&candidate[i + 1..]))
 }
 
 // Whether a search, of which `wanted` was found, asks for a candidate's type.
@@ -72,9 +74,5 @@ pub(crate) fn wants(search: &[u8], wanted: Wanted, candidate: &[u8]) -> bool
 pub(crate) fn wants_all(wanted: Wanted) -> bool
     ensures { (search : List ℕ) → wanted ≡ wanted_of search → result ≡ equal search ssdp_all }
 {
-    match wanted {
-        Wanted::All => true,
-        Wanted::Same => false,
-        Wanted::Version(_, _) => false,
-    }
+    matches!(wanted, Wanted::All)
 }

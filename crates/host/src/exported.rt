@@ -169,7 +169,7 @@ pub extern "C" fn kohlsilk_lent_on_data(
 {
     let from = Endpoint {
         address: sender,
-        port: port,
+        port,
     };
     calls::on_data(
         head, searches, numbers, texts, time, from, receiver, datagram,

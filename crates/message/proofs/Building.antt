@@ -5,7 +5,7 @@ use mathlib.Core.List.{List, [], ◌∷◌, ◌++◌}
 use Prim.Native.Nat.{ℕ, ◌+◌, ◌≤◌}
 use native.Mathlib.Omega.{arith}
 use native.Mathlib.Nat.{zero-add}
-use borrow.Author.Tests.{ltb-false, eq-eqb, ne_eqb}
+use borrow.Author.Tests.{ltb-false, ne_eqb}
 use lib.Dec.{ltb}
 use lib.ListN.{length, drop, length-append}
 use Rattle.text.specs.Bytes.{bytes}
@@ -13,9 +13,12 @@ use Rattle.text.specs.Range.{every}
 use Rattle.text.specs.Good.{good_text}
 use Rattle.text.specs.Utf8.{utf8, rest}
 use Rattle.text.specs.White.{leading, trailing, run}
+use Rattle.std.specs.Prelude.{Result, Ok, Err, IsErrAnd}
+use Rattle.message.specs.declared.build.BuildError.{BuildError}
+use Rattle.message.specs.declared.build.BuildError.TheVariants.{TextOverSize, TextNotGood, BufferShort}
 use Rattle.message.specs.Refusals.{accepted, text_over_size, text_not_good, buffer_short}
 use Rattle.text.specs.Put.{overwritten, Put}
-use Rattle.message.specs.Build.{Bounded, build_refusal, Builds, any_over_size, any_not_good, search_texts, byebye_texts, located_texts, search_text, response_text, notify_text, byebye_text, search_headers, response_headers, notify_headers, byebye_headers, message, header_lines, header_line, search_line, response_line, notify_line, host_text, max_age_text, server_text, boot_headers}
+use Rattle.message.specs.Build.{Bounded, build_refusal, build_number, built, Builds, any_over_size, any_not_good, search_texts, byebye_texts, located_texts, search_text, response_text, notify_text, byebye_text, search_headers, response_headers, notify_headers, byebye_headers, message, header_lines, header_line, search_line, response_line, notify_line, host_text, max_age_text, server_text, boot_headers}
 
 -- lengths: "Bytes besides the fields: search 86, response 116, notify 163, byebye 152"
 pub search-length : (st : List ℕ) → length (search_text st) ≡ 86 + length st
@@ -41,28 +44,34 @@ last-test false true short e = absurd (omega (arith, e))
 last-test false false true e = absurd (omega (arith, e))
 last-test false false false e = refl
 
-pub room : (texts : List Bounded) (m b : ℕ) {n : ℕ} → n ≡ build_refusal texts m b → n ≡ 0 → m ≤ b
-unfolding build_refusal
-room texts m b e z = ltb-false b m (last-test (any_over_size texts) (any_not_good texts) (ltb b m) (sym e ∙ z))
+-- an error is no acceptance
+refuses : (e : BuildError) → build_number e ≡ accepted → ⊥
+refuses TextOverSize p = omega (arith, p)
+refuses TextNotGood p = omega (arith, p)
+refuses BufferShort p = omega (arith, p)
 
 -- what a refused build, and an accepted one, leaves
-module _ (texts : List Bounded) {message buffer : List ℕ} {n k : ℕ} (answered : n ≡ k) (right : k ≡ build_refusal texts (length message) (length buffer)) where
-  pub refused : (n ≡ 0 → ⊥) → Builds texts message buffer buffer (record { refusal = n; len = 0 })
-  refused f = record {
-    refusal = answered ∙ right;
-    len = sym (ap (λ (t : Bool). cond t (length message) 0) (ne_eqb n 0 f));
-    written = sym (ap (λ (t : Bool). cond t (message ++ drop (length message) buffer) buffer) (ne_eqb n 0 f));
-  }
+module _ (texts : List Bounded) (message buffer : List ℕ) {k : ℕ} (right : k ≡ build_refusal texts (length message) (length buffer)) where
+  pub refused : (e : BuildError) (r : Result ℕ BuildError) → build_number e ≡ k → IsErrAnd r (λ x. x ≡ e) → Builds texts message buffer buffer (built r)
+  refused e (Ok n) p q = absurd q
+  refused e (Err x) p q =
+      let n : build_number x ≡ k = ap build_number q ∙ p in
+      record {
+        refusal = n ∙ right;
+        len = sym (ap (λ (t : Bool). cond t (length message) 0) (ne_eqb (build_number x) 0 (refuses x)));
+        written = sym (ap (λ (t : Bool). cond t (message ++ drop (length message) buffer) buffer) (ne_eqb (build_number x) 0 (refuses x)));
+      }
 
-  pub done : {after : List ℕ} {l : ℕ} → n ≡ 0 → Put buffer 0 message after l → Builds texts message buffer after (record { refusal = n; len = l })
+  pub room : accepted ≡ k → length message ≤ length buffer
+  unfolding build_refusal
+  room z = ltb-false (length buffer) (length message) (last-test (any_over_size texts) (any_not_good texts) (ltb (length buffer) (length message)) (sym (z ∙ right)))
+
+  pub done : {after : List ℕ} {l : ℕ} → accepted ≡ k → Put buffer 0 message after l → Builds texts message buffer after (built (Ok l))
   unfolding overwritten
   done z p = record {
-    refusal = answered ∙ right;
-    len = p.place ∙ zero-add (length message) ∙ sym (ap (λ (t : Bool). cond t (length message) 0) (eq-eqb n 0 z));
-    written =
-        p.written
-        ∙ ap (λ (k : ℕ). message ++ drop k buffer) (zero-add (length message))
-        ∙ sym (ap (λ (t : Bool). cond t (message ++ drop (length message) buffer) buffer) (eq-eqb n 0 z));
+    refusal = z ∙ right;
+    len = p.place ∙ zero-add (length message);
+    written = p.written ∙ ap (λ (k : ℕ). message ++ drop k buffer) (zero-add (length message));
   }
 
 -- an empty text is good
@@ -70,9 +79,9 @@ good-empty : good_text [] ≡ true
 unfolding good_text utf8 rest leading trailing run every
 good-empty = refl
 
-pub good-missing : (s : List ℕ) → length s ≡ 0 → true ≡ good_text s
-good-missing [] e = sym good-empty
-good-missing (a ∷ s) e = absurd (omega arith)
+pub good_missing : (s : List ℕ) → length s ≡ 0 → true ≡ good_text s
+good_missing [] e = sym good-empty
+good_missing (a ∷ s) e = absurd (omega arith)
 
 -- the refusal over three texts is that over the texts that a message has, since an empty one is within its size and good
 module _ (room : ℕ) where

@@ -11,8 +11,8 @@ use Rattle.text.specs.Bytes.{bytes, agree, upper, equal, equal_upper}
 use Rattle.text.proofs.Comparing.{agree-lengths}
 use Rattle.text.specs.declared.white.Place.{Place}
 use Rattle.message.specs.Headers.{keys, key_index, later}
-use Rattle.message.specs.declared.headers.Header.{Header}
-use Rattle.message.specs.declared.headers.Header.TheVariants.{Absent, At}
+use Rattle.message.specs.Headers.{Header}
+use Rattle.std.specs.Prelude.{None, Some}
 
 -- the index from the six tests
 pub index : (k : List ℕ) {a b c d e f : Bool} → equal_upper k (bytes "NT") ≡ a → equal_upper k (bytes "ST") ≡ b → equal_upper k (bytes "MX") ≡ c
@@ -63,8 +63,8 @@ merge-ext e (k ∷ ks) [] = refl
 merge-ext {f} {g} e (k ∷ ks) (h ∷ hs) = ap (λ (x : Header). later x h ∷ merge f ks hs) (e k) ∙ ap (λ (l : List Header). later (g k) h ∷ l) (merge-ext e ks hs)
 
 later-later : (x y z : Header) → later (later x y) z ≡ later x (later y z)
-later-later (At p) y z = refl
-later-later Absent y z = refl
+later-later (Some p) y z = refl
+later-later None y z = refl
 
 pub merge-merge : (f g : List ℕ → Header) (ks : List (List ℕ)) (hs : List Header) → merge (λ k. later (f k) (g k)) ks hs ≡ merge f ks (merge g ks hs)
 merge-merge f g [] hs = refl
@@ -73,24 +73,24 @@ merge-merge f g (k ∷ ks) (h ∷ hs) =
     ap (λ (x : Header). x ∷ merge (λ k. later (f k) (g k)) ks hs) (later-later (f k) (g k) h)
     ∙ ap (λ (l : List Header). later (f k) (later (g k) h) ∷ l) (merge-merge f g ks hs)
 
-pub merge-absent : (ks : List (List ℕ)) (hs : List Header) → merge (λ k. Absent) ks hs ≡ hs
+pub merge-absent : (ks : List (List ℕ)) (hs : List Header) → merge (λ k. None) ks hs ≡ hs
 merge-absent [] hs = refl
 merge-absent (k ∷ ks) [] = refl
 merge-absent (k ∷ ks) (h ∷ hs) = ap (λ (l : List Header). h ∷ l) (merge-absent ks hs)
 
-later-absent : (x : Header) → later x Absent ≡ x
-later-absent (At p) = refl
-later-absent Absent = refl
+later-absent : (x : Header) → later x None ≡ x
+later-absent (Some p) = refl
+later-absent None = refl
 
 -- over an empty table
-pub merge-fresh : (f : List ℕ → Header) (ks : List (List ℕ)) → merge f ks (map (λ k. Absent) ks) ≡ map f ks
+pub merge-fresh : (f : List ℕ → Header) (ks : List (List ℕ)) → merge f ks (map (λ k. None) ks) ≡ map f ks
 merge-fresh f [] = refl
-merge-fresh f (k ∷ ks) = ap (λ (x : Header). x ∷ merge f ks (map (λ k. Absent) ks)) (later-absent (f k)) ∙ ap (λ (l : List Header). f k ∷ l) (merge-fresh f ks)
+merge-fresh f (k ∷ ks) = ap (λ (x : Header). x ∷ merge f ks (map (λ k. None) ks)) (later-absent (f k)) ∙ ap (λ (l : List Header). f k ∷ l) (merge-fresh f ks)
 
 -- a value of the key `k` is stored at the key's index
 module _ (k : List ℕ) (v : Place) where
   abbrev pub under : List ℕ → Header
-  under key = cond (equal_upper k key) (At v) Absent
+  under key = cond (equal_upper k key) (Some v) None
 
   not-under : (t : List ℕ) → equal_upper k t ≡ true → (ks : List (List ℕ)) → apart t ks ≡ true → (hs : List Header) → merge under ks hs ≡ hs
   not-under t e [] a hs = refl
@@ -98,9 +98,9 @@ module _ (k : List ℕ) (v : Place) where
   not-under t e (u ∷ us) a (h ∷ hs) =
       let p = (and-eq-true_iff (not (equal t u)) (apart t us)).0 a in
       let q : equal_upper k u ≡ false = one_key k t u e ∙ not-true (equal t u) p.0 in
-      ap (λ (x : Bool). later (cond x (At v) Absent) h ∷ merge under us hs) q ∙ ap (λ (l : List Header). h ∷ l) (not-under t e us p.1 hs)
+      ap (λ (x : Bool). later (cond x (Some v) None) h ∷ merge under us hs) q ∙ ap (λ (l : List Header). h ∷ l) (not-under t e us p.1 hs)
 
-  stored : (ks : List (List ℕ)) → distinct ks ≡ true → (hs : List Header) → length hs ≡ length ks → merge under ks hs ≡ set hs (key_index ks k) (At v)
+  stored : (ks : List (List ℕ)) → distinct ks ≡ true → (hs : List Header) → length hs ≡ length ks → merge under ks hs ≡ set hs (key_index ks k) (Some v)
   unfolding key_index
   stored [] d [] n = refl
   stored [] d (h ∷ hs) n = absurd (omega (arith, n))
@@ -109,11 +109,11 @@ module _ (k : List ℕ) (v : Place) where
       let p = (and-eq-true_iff (apart t ts) (distinct ts)).0 d in
       go (equal_upper k t) refl (λ e. not-under t e ts p.0 hs) (stored ts p.1 hs (omega (arith, n)))
     where
-      go : (b : Bool) → equal_upper k t ≡ b → (equal_upper k t ≡ true → merge under ts hs ≡ hs) → merge under ts hs ≡ set hs (key_index ts k) (At v)
-          → later (cond b (At v) Absent) h ∷ merge under ts hs ≡ set (h ∷ hs) (cond b 0 (suc (key_index ts k))) (At v)
-      go true e f r = ap (λ (l : List Header). At v ∷ l) (f e)
+      go : (b : Bool) → equal_upper k t ≡ b → (equal_upper k t ≡ true → merge under ts hs ≡ hs) → merge under ts hs ≡ set hs (key_index ts k) (Some v)
+          → later (cond b (Some v) None) h ∷ merge under ts hs ≡ set (h ∷ hs) (cond b 0 (suc (key_index ts k))) (Some v)
+      go true e f r = ap (λ (l : List Header). Some v ∷ l) (f e)
       go false e f r = ap (λ (l : List Header). h ∷ l) r
 
-  pub stored_at : (hs : List Header) → length hs ≡ 6 → merge under keys hs ≡ set hs (key_index keys k) (At v)
+  pub stored_at : (hs : List Header) → length hs ≡ 6 → merge under keys hs ≡ set hs (key_index keys k) (Some v)
   unfolding keys
   stored_at hs n = stored keys keys-distinct hs n

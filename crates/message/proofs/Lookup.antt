@@ -1,12 +1,11 @@
 -- One reading of a datagram's lines gives the header of every key. The table of the latest headers, merged with what the lines to come hold, stays
 -- what all the lines hold.
 use mathlib.Core.Path.{◌≡◌, refl, sym, ◌∙◌, ap}
-use mathlib.Core.Bool.{Bool, true, false, cond, ◌&&◌, true≢false}
+use mathlib.Core.Bool.{Bool, true, false, cond, ◌&&◌}
 use mathlib.Core.List.{List, [], ◌∷◌}
 use Prim.Native.Nat.{ℕ, ◌+◌, ◌-◌, ◌≤◌, ◌<◌}
 use native.Mathlib.Omega.{arith}
-use borrow.Author.Tests.{lt-ltb, le-ltb, ltb-true, ltb-false}
-use lib.Dec.{ltb}
+use borrow.Author.Tests.{lt-ltb, le-ltb, ltb-true}
 use lib.ListN.{length, take, drop, set, length-drop, drop_of_length-le}
 use lib.Seq.{take_all, set_out, drop-drop, length-take-le}
 use Rattle.text.specs.Bytes.{equal_upper}
@@ -16,98 +15,80 @@ use Rattle.text.specs.declared.lines.Line.{Line}
 use Rattle.text.specs.declared.white.Place.{Place}
 use Rattle.text.proofs.FirstLine.{Joined, joined}
 use Rattle.text.proofs.Trimming.{trimmed-inside}
-use Rattle.message.specs.Headers.{colon, has_colon, shifted, value_of, line_header, later, header_in, header_from, headers_from, keys, key_index, line_key, no_entry, entry_of}
-use Rattle.message.specs.declared.headers.Entry.{Entry}
-use Rattle.message.specs.declared.headers.Header.{Header}
-use Rattle.message.specs.declared.headers.Header.TheVariants.{Absent, At}
+use Rattle.message.specs.Headers.{colon, has_colon, shifted, value_of, line_header, later, header_in, header_from, headers_from, keys, key_index, line_key, place_of}
+use Rattle.message.specs.declared.headers.Key.{Key}
+use Rattle.message.specs.declared.headers.Key.TheVariants.{Nt, St, Mx, Nts, Usn, Location}
+use Rattle.message.specs.Headers.{Header}
+use Rattle.std.specs.Prelude.{None, Some}
 use Rattle.message.proofs.Keys.{merge, merge-ext, merge-merge, merge-absent, merge-fresh, stored_at}
 
--- the entry of a line
+-- the key and the value of a line
 module _ (line : List ℕ) where
-  entry-none : 6 ≤ line_key line → no_entry ≡ entry_of line
-  unfolding entry_of
-  entry-none h = sym (ap (λ (t : Bool). cond t (record { key = line_key line; value = value_of line }) no_entry) (le-ltb (line_key line) 6 h))
-
   key-is : colon line < length line → key_index keys (take (colon line) line) ≡ line_key line
   unfolding line_key
   key-is h = sym (ap (λ (t : Bool). cond t (key_index keys (take (colon line) line)) 6) (lt-ltb (colon line) (length line) h))
 
-  no_key : length line ≤ colon line → 6 ≡ line_key line
+  pub without_colon : colon line ≡ length line → line_key line ≡ 6
   unfolding line_key
-  no_key h = sym (ap (λ (t : Bool). cond t (key_index keys (take (colon line) line)) 6) (le-ltb (colon line) (length line) h))
+  without_colon h = ap (λ (t : Bool). cond t (key_index keys (take (colon line) line)) 6) (le-ltb (colon line) (length line) (omega arith))
 
-  module _ {c : ℕ} (at : c ≡ colon line) where
-    pub without_colon : length line ≤ c → no_entry ≡ entry_of line
-    without_colon h = entry-none (omega (arith, no_key (omega (arith, at))))
+  module _ {c : ℕ} (at : c ≡ colon line) (found : c < length line) where
+    pub line-key : {k : ℕ} {key : List ℕ} → key ≡ take c line → k ≡ key_index keys key → k ≡ line_key line
+    line-key {k} {key} e f = f ∙ ap (key_index keys) e ∙ ap (λ (i : ℕ). key_index keys (take i line)) at ∙ key-is (omega (arith, at))
 
-    module _ {k : ℕ} (found : c < length line) (key : k ≡ key_index keys (take c line)) where
-      line-key : k ≡ line_key line
-      line-key = key ∙ ap (λ (i : ℕ). key_index keys (take i line)) at ∙ key-is (omega (arith, at))
+    pub value-is : {value : List ℕ} {p : Place} → value ≡ take (length line - (c + 1)) (drop (c + 1) line) → p ≡ trimmed value
+        → record { start = c + 1 + p.start; len = p.len } ≡ value_of line
+    unfolding value_of
+    value-is {value} {p} v t =
+        let w : value ≡ drop (c + 1) line = v ∙ take_all (length line - (c + 1)) (drop (c + 1) line) (omega (arith, length-drop (c + 1) line)) in
+        ap (shifted (c + 1)) (t ∙ ap trimmed w) ∙ ap (λ (i : ℕ). shifted (i + 1) (trimmed (drop (i + 1) line))) at
 
-      pub other_key : 6 ≤ k → no_entry ≡ entry_of line
-      other_key h = entry-none (omega (arith, line-key))
-
-      pub a_key : {value : List ℕ} {p : Place} → k < 6 → value ≡ take (length line - (c + 1)) (drop (c + 1) line) → p ≡ trimmed value
-          → record { key = k; value = record { start = c + 1 + p.start; len = p.len } } ≡ entry_of line
-      unfolding entry_of value_of
-      a_key {value} {p} h v t =
-          let w : value ≡ drop (c + 1) line = v ∙ take_all (length line - (c + 1)) (drop (c + 1) line) (omega (arith, length-drop (c + 1) line)) in
-          ap (λ (i : ℕ). record { key = i; value = shifted (c + 1) p }) line-key
-          ∙ ap (λ (q : Place). record { key = line_key line; value = shifted (c + 1) q }) (t ∙ ap trimmed w)
-          ∙ ap (λ (i : ℕ). record { key = line_key line; value = shifted (i + 1) (trimmed (drop (i + 1) line)) }) at
-          ∙ sym (ap (λ (b : Bool). cond b (record { key = line_key line; value = value_of line }) no_entry) (lt-ltb (line_key line) 6 (omega (arith, line-key))))
+-- a key has a place among the six
+pub place_below : (k : Key) → place_of k < 6
+place_below Nt = omega arith
+place_below St = omega arith
+place_below Mx = omega arith
+place_below Nts = omega arith
+place_below Usn = omega arith
+place_below Location = omega arith
 
 -- a value starts in its line
 value-inside : (line : List ℕ) → colon line < length line → (value_of line).start ≤ length line
 unfolding value_of
 value-inside line h = omega (arith, trimmed-inside (drop (colon line + 1) line), length-drop (colon line + 1) line)
 
-entry-inside : (line : List ℕ) {e : Entry} → e ≡ entry_of line → e.value.start ≤ length line
-unfolding entry_of line_key
-entry-inside line {e} p = go (has_colon line) refl (ltb (cond (has_colon line) (key_index keys (take (colon line) line)) 6) 6) refl p
+keyed-inside : (line : List ℕ) → line_key line < 6 → (value_of line).start ≤ length line
+unfolding line_key
+keyed-inside line h = go (has_colon line) refl h
   where
-    go : (b : Bool) → has_colon line ≡ b → (t : Bool) → ltb (cond b (key_index keys (take (colon line) line)) 6) 6 ≡ t
-        → e ≡ cond t (record { key = line_key line; value = value_of line }) no_entry → e.value.start ≤ length line
-    go b q false r f = omega (arith, ap (λ (x : Entry). x.value.start) f)
-    go true q true r f = omega (arith, ap (λ (x : Entry). x.value.start) f, value-inside line (ltb-true (colon line) (length line) q))
-    go false q true r f = absurd (true≢false (sym r))
+    go : (b : Bool) → has_colon line ≡ b → cond b (key_index keys (take (colon line) line)) 6 < 6 → (value_of line).start ≤ length line
+    go true q r = value-inside line (ltb-true (colon line) (length line) q)
+    go false q r = absurd (omega (arith, r))
 
 -- the table once a line was read
 module _ (line : List ℕ) (at : ℕ) (latest : List Header) (six : length latest ≡ 6) where
-  noted : merge (λ k. line_header k at line) keys latest ≡ set latest (line_key line) (At (shifted at (value_of line)))
+  noted : merge (λ k. line_header k at line) keys latest ≡ set latest (line_key line) (Some (shifted at (value_of line)))
   unfolding line_header line_key
   noted = go (has_colon line)
     where
-      go : (b : Bool) → merge (λ k. cond (b && equal_upper (take (colon line) line) k) (At (shifted at (value_of line))) Absent) keys latest
-          ≡ set latest (cond b (key_index keys (take (colon line) line)) 6) (At (shifted at (value_of line)))
+      go : (b : Bool) → merge (λ k. cond (b && equal_upper (take (colon line) line) k) (Some (shifted at (value_of line))) None) keys latest
+          ≡ set latest (cond b (key_index keys (take (colon line) line)) 6) (Some (shifted at (value_of line)))
       go true = stored_at (take (colon line) line) (shifted at (value_of line)) latest six
-      go false = merge-absent keys latest ∙ sym (set_out latest 6 (At (shifted at (value_of line))) (omega (arith, six)))
+      go false = merge-absent keys latest ∙ sym (set_out latest 6 (Some (shifted at (value_of line))) (omega (arith, six)))
 
-  pub noted-entry : {e : Entry} → e ≡ entry_of line → e.key < 6
-      → merge (λ k. line_header k at line) keys latest ≡ set latest e.key (At (record { start = at + e.value.start; len = e.value.len }))
-  unfolding entry_of
-  noted-entry {e} p h = noted ∙ go (ltb (line_key line) 6) p
-    where
-      go : (b : Bool) → e ≡ cond b (record { key = line_key line; value = value_of line }) no_entry
-          → set latest (line_key line) (At (shifted at (value_of line))) ≡ set latest e.key (At (shifted at e.value))
-      go true q = ap (λ (x : Entry). set latest x.key (At (shifted at x.value))) (sym q)
-      go false q = absurd (omega (arith, ap (λ (x : Entry). x.key) q))
+  pub noted-entry : {key : ℕ} {value : Place} → key ≡ line_key line → value ≡ value_of line
+      → merge (λ k. line_header k at line) keys latest ≡ set latest key (Some (record { start = at + value.start; len = value.len }))
+  noted-entry {key} e f = noted ∙ ap (λ (k : ℕ). set latest k (Some (shifted at (value_of line)))) (sym e) ∙ ap (λ (p : Place). set latest key (Some (shifted at p))) (sym f)
 
-  pub noted_other : {e : Entry} → e ≡ entry_of line → 6 ≤ e.key → merge (λ k. line_header k at line) keys latest ≡ latest
-  unfolding entry_of
-  noted_other {e} p h = noted ∙ go (ltb (line_key line) 6) refl p
-    where
-      go : (b : Bool) → ltb (line_key line) 6 ≡ b → e ≡ cond b (record { key = line_key line; value = value_of line }) no_entry
-          → set latest (line_key line) (At (shifted at (value_of line))) ≡ latest
-      go true t q = absurd (omega (arith, ltb-true (line_key line) 6 t, ap (λ (x : Entry). x.key) q))
-      go false t q = set_out latest (line_key line) (At (shifted at (value_of line))) (omega (arith, six, ltb-false (line_key line) 6 t))
+  pub noted_other : line_key line ≡ 6 → merge (λ k. line_header k at line) keys latest ≡ latest
+  noted_other e = noted ∙ set_out latest (line_key line) (Some (shifted at (value_of line))) (omega (arith, six, e))
 
 -- what the lines from `at` on hold, over the table
 abbrev pub ahead : List ℕ → ℕ → List Header → List Header
 ahead s at latest = merge (header_from s at) keys latest
 
 -- before the first line
-pub begin : (s : List ℕ) (from : ℕ) → ahead s from (Absent ∷ Absent ∷ Absent ∷ Absent ∷ Absent ∷ Absent ∷ []) ≡ headers_from s from
+pub begin : (s : List ℕ) (from : ℕ) → ahead s from (None ∷ None ∷ None ∷ None ∷ None ∷ None ∷ []) ≡ headers_from s from
 unfolding keys
 begin s from = merge-fresh (header_from s from) keys
 
@@ -134,10 +115,11 @@ module _ (s : List ℕ) (at : ℕ) (room : at < length s) {rest : List ℕ} (par
   pub line-some : 0 < r.next
   line-some = line_of.some
 
-  pub value_room : {e : Entry} → e ≡ entry_of (take r.len rest) → at + e.value.start ≤ length s
-  value_room p =
+  pub value_room : {key : ℕ} {value : Place} → key < 6 → key ≡ line_key (take r.len rest) → value ≡ value_of (take r.len rest) → at + value.start ≤ length s
+  value_room h e f =
       let n : length (take r.len rest) ≡ r.len = length-take-le r.len rest line-short in
-      omega (arith, entry-inside (take r.len rest) p, n, line-inside, line_of.short)
+      let v : (value_of (take r.len rest)).start ≤ length (take r.len rest) = keyed-inside (take r.len rest) (omega (arith, e)) in
+      omega (arith, ap (λ (p : Place). p.start) f, v, n, line-inside, line_of.short)
 
   lines_cut : lines (drop at s) ≡ take r.next rest ∷ lines (drop (at + r.next) s)
   lines_cut =

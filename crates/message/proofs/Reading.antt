@@ -1,28 +1,27 @@
 -- Laws of the definitions of `parse`: each of its answers, from the tests and headers that it was made of.
 use mathlib.Core.Path.{◌≡◌, refl, sym, ◌∙◌, ap}
-use mathlib.Core.Bool.{Bool, true, false, cond, not, ◌&&◌}
+use mathlib.Core.Bool.{Bool, true, false, cond, not}
 use mathlib.Core.List.{List, [], ◌∷◌}
-use Prim.Native.Nat.{ℕ, ◌-◌, ◌≤◌}
+use Prim.Native.Nat.{ℕ, ◌≤◌}
 use native.Mathlib.Omega.{arith}
-use borrow.Author.Tests.{ne_eqb, leb-true}
-use lib.Dec.{eqb, leb}
-use lib.ListN.{length, take, drop, get_or, length-drop, drop_of_length-le}
-use lib.Seq.{take_all, take-nil, length-take-le}
+use borrow.Author.Tests.{ne_eqb}
+use lib.Dec.{eqb}
+use lib.ListN.{length, take, drop, get_or}
+use lib.Seq.{length-take-le}
 use Rattle.text.specs.Bytes.{bytes, equal}
 use Rattle.text.specs.Lines.{lines, first_line}
-use Rattle.text.specs.Number.{number, unsigned, more, value, digits, max8}
+use Rattle.text.specs.Number.{number, value, max8}
 use Rattle.text.specs.Utf8.{utf8}
 use Rattle.text.specs.declared.lines.Line.{Line}
-use Rattle.text.specs.declared.number.Number.{Number}
-use Rattle.text.specs.declared.number.Number.TheVariants.{Value, Invalid as NoNumber}
 use Rattle.text.specs.declared.white.Place.{Place}
 use Rattle.text.proofs.FirstLine.{Joined, joined}
 use Rattle.message.specs.Build.{notify_line, response_line, search_line}
-use Rattle.message.specs.Headers.{header, header_in, header_from, headers_from, after_first, keys}
+use Rattle.message.specs.Headers.{header, header_in, header_from, headers_from, after_first, keys, listed}
+use Rattle.message.specs.declared.headers.Headers.{Headers}
 use Rattle.message.specs.Refusals.{datagram_empty, datagram_invalid}
 use Rattle.message.specs.Parse.{ParseAnswer, refuses, field_at, given, alive_of, byebye_of, notify_of, response_of, search_in, search_of, start_line, notify_from, response_from, search_from, parsed}
-use Rattle.message.specs.declared.headers.Header.{Header}
-use Rattle.message.specs.declared.headers.Header.TheVariants.{At}
+use Rattle.message.specs.Headers.{Header}
+use Rattle.std.specs.Prelude.{Option, None, Some}
 
 -- a choice whose test is known
 pub is-so : {t t' : Bool} {m a : ParseAnswer} (b : ParseAnswer) → t ≡ t' → t ≡ true → m ≡ a → m ≡ cond t' a b
@@ -32,33 +31,18 @@ pub is-not : {t t' : Bool} {m b : ParseAnswer} (a : ParseAnswer) → t ≡ t' �
 is-not {t} {t'} {m} {b} a e f g = g ∙ sym (ap (λ (x : Bool). cond x a b) (sym e ∙ f))
 
 -- fields whose headers are there
-pub given1 : {a : Header} {x : Place} (f : Place → ParseAnswer) → a ≡ At x → f x ≡ given a f
+pub given1 : {a : Header} {x : Place} (f : Place → ParseAnswer) → a ≡ Some x → f x ≡ given a f
 given1 f p = sym (ap (λ (h : Header). given h f) p)
 
-pub given2 : {a b : Header} {x y : Place} (f : Place → Place → ParseAnswer) → a ≡ At x → b ≡ At y → f x y ≡ given a (λ x. given b (λ y. f x y))
+pub given2 : {a b : Header} {x y : Place} (f : Place → Place → ParseAnswer) → a ≡ Some x → b ≡ Some y → f x y ≡ given a (λ x. given b (λ y. f x y))
 given2 {a} {b} {x} f p q = given1 (f x) q ∙ given1 (λ x. given b (λ y. f x y)) p
 
-pub given3 : {a b c : Header} {x y z : Place} (f : Place → Place → Place → ParseAnswer) → a ≡ At x → b ≡ At y → c ≡ At z
+pub given3 : {a b c : Header} {x y z : Place} (f : Place → Place → Place → ParseAnswer) → a ≡ Some x → b ≡ Some y → c ≡ Some z
     → f x y z ≡ given a (λ x. given b (λ y. given c (λ z. f x y z)))
 given3 {a} {b} {c} {x} f p q r = given2 (f x) q r ∙ given1 (λ x. given b (λ y. given c (λ z. f x y z))) p
 
--- what stands at a place, whatever the place
-module _ (s : List ℕ) (start n : ℕ) where
-  pub field_past : length s ≤ start → take 0 s ≡ take n (drop start s)
-  field_past h = sym (ap (take n) (drop_of_length-le s h) ∙ take-nil n)
-
-  module _ {rest : List ℕ} (part : rest ≡ take (length s - start) (drop start s)) where
-    all_rest : rest ≡ drop start s
-    all_rest = part ∙ take_all (length s - start) (drop start s) (omega (arith, length-drop start s))
-
-    pub field-all : length rest ≤ n → rest ≡ take n (drop start s)
-    field-all h = all_rest ∙ sym (take_all n (drop start s) (omega (arith, ap length all_rest)))
-
-    pub field-some : take n rest ≡ take n (drop start s)
-    field-some = ap (take n) all_rest
-
 -- a notify, from the value of its NTS
-module _ (s : List ℕ) {nts : Header} (nt usn location : Header) {p : Place} (there : nts ≡ At p) {service : List ℕ} (at : service ≡ field_at s p) where
+module _ (s : List ℕ) {nts : Header} (nt usn location : Header) {p : Place} (there : nts ≡ Some p) {service : List ℕ} (at : service ≡ field_at s p) where
   by-service : cond (equal service (bytes "ssdp:alive")) (alive_of nt usn location) (cond (equal service (bytes "ssdp:byebye")) (byebye_of nt usn) (refuses datagram_invalid))
       ≡ notify_of s nts nt usn location
   by-service =
@@ -76,57 +60,39 @@ module _ (s : List ℕ) {nts : Header} (nt usn location : Header) {p : Place} (t
     is-neither f e g = is-not _ alive f (is-not _ e g refl) ∙ by-service
 
 -- a search, from the number of its MX
-module _ (s : List ℕ) {st mx : Header} {x y : Place} (p : st ≡ At x) (q : mx ≡ At y) {l : List ℕ} (at : l ≡ field_at s y) {n : Number} (e : n ≡ number max8 l) where
+module _ (s : List ℕ) {st mx : Header} {x y : Place} (p : st ≡ Some x) (q : mx ≡ Some y) {l : List ℕ} (at : l ≡ field_at s y) {n : Option ℕ} (e : n ≡ number max8 l) where
   pub is-search : {m : ParseAnswer} → m ≡ search_in x n → m ≡ search_of s st mx
   is-search f =
       f ∙ ap (search_in x) (e ∙ ap (number max8) at) ∙ given2 (λ t p. search_in t (number max8 (field_at s p))) p q
 
--- a number is not above its largest
-more-most : (max n : ℕ) (s : List ℕ) {v : ℕ} → more max n s ≡ Value v → v ≤ max
-unfolding more
-more-most max n s {v} e = go (digits s) (leb (value n s) max) refl e
-  where
-    go : (a t : Bool) → leb (value n s) max ≡ t → cond (a && t) (Value (value n s)) NoNumber ≡ Value v → v ≤ max
-    go true true t f = let g : value n s ≡ v = cc in omega (arith, leb-true (value n s) max t, g)
-    go true false t f = absurd (let z : ◌≡◌ {A = ℕ} 0 1 = cc in omega arith)
-    go false t u f = absurd (let z : ◌≡◌ {A = ℕ} 0 1 = cc in omega arith)
-
-unsigned-most : (max : ℕ) (s : List ℕ) {v : ℕ} → unsigned max s ≡ Value v → v ≤ max
-unfolding unsigned
-unsigned-most max [] e = absurd (let z : ◌≡◌ {A = ℕ} 0 1 = cc in omega arith)
-unsigned-most max (d ∷ s) e = more-most max 0 (d ∷ s) e
-
-pub number-most : (max : ℕ) (s : List ℕ) {v : ℕ} → number max s ≡ Value v → v ≤ max
-unfolding number
-number-most max [] e = absurd (let z : ◌≡◌ {A = ℕ} 0 1 = cc in omega arith)
-number-most max (a ∷ s) {v} e = go (eqb a 43) e
-  where
-    go : (t : Bool) → cond t (unsigned max s) (unsigned max (a ∷ s)) ≡ Value v → v ≤ max
-    go true f = unsigned-most max s f
-    go false f = unsigned-most max (a ∷ s) f
-
 -- the answers of `parse`
-pub is-empty : (s : List ℕ) → length s ≡ 0 → refuses datagram_empty ≡ parsed s
+pub is_empty : (s : List ℕ) → length s ≡ 0 → refuses datagram_empty ≡ parsed s
 unfolding parsed
-is-empty [] h = refl
-is-empty (b ∷ s) h = absurd (omega arith)
-
--- the messages read from the table of headers
-module _ (s : List ℕ) (from : ℕ) {h : List Header} (table : h ≡ headers_from s from) (d : Header) where
-  pub notify-read : {m : ParseAnswer} → m ≡ notify_of s (get_or h 3 d) (get_or h 0 d) (get_or h 4 d) (get_or h 5 d) → m ≡ notify_from s from
-  unfolding notify_from keys
-  notify-read e = e ∙ ap (λ (h : List Header). notify_of s (get_or h 3 d) (get_or h 0 d) (get_or h 4 d) (get_or h 5 d)) table
-
-  pub response-read : {m : ParseAnswer} → m ≡ response_of (get_or h 1 d) (get_or h 4 d) (get_or h 5 d) → m ≡ response_from s from
-  unfolding response_from keys
-  response-read e = e ∙ ap (λ (h : List Header). response_of (get_or h 1 d) (get_or h 4 d) (get_or h 5 d)) table
-
-  pub search-read : {m : ParseAnswer} → m ≡ search_of s (get_or h 1 d) (get_or h 2 d) → m ≡ search_from s from
-  unfolding search_from keys
-  search-read e = e ∙ ap (λ (h : List Header). search_of s (get_or h 1 d) (get_or h 2 d)) table
+is_empty [] h = refl
+is_empty (b ∷ s) h = absurd (omega arith)
 
 four : (f : Header → Header → Header → Header → ParseAnswer) {a b c d a' b' c' d' : Header} → a ≡ a' → b ≡ b' → c ≡ c' → d ≡ d' → f a b c d ≡ f a' b' c' d'
 four f p q r s = cc
+
+three : (f : Header → Header → Header → ParseAnswer) {a b c a' b' c' : Header} → a ≡ a' → b ≡ b' → c ≡ c' → f a b c ≡ f a' b' c'
+three f p q r = cc
+
+two : (f : Header → Header → ParseAnswer) {a b a' b' : Header} → a ≡ a' → b ≡ b' → f a b ≡ f a' b'
+two f p q = cc
+
+-- the messages read from the table of headers
+module _ (s : List ℕ) (from : ℕ) {h : Headers} (table : listed h ≡ headers_from s from) where
+  pub notify-read : notify_of s h.nts h.nt h.usn h.location ≡ notify_from s from
+  unfolding notify_from keys
+  notify-read = four (notify_of s) (ap (λ (l : List Header). get_or l 3 None) table) (ap (λ (l : List Header). get_or l 0 None) table) (ap (λ (l : List Header). get_or l 4 None) table) (ap (λ (l : List Header). get_or l 5 None) table)
+
+  pub response-read : response_of h.st h.usn h.location ≡ response_from s from
+  unfolding response_from keys
+  response-read = three response_of (ap (λ (l : List Header). get_or l 1 None) table) (ap (λ (l : List Header). get_or l 4 None) table) (ap (λ (l : List Header). get_or l 5 None) table)
+
+  pub search-read : search_of s h.st h.mx ≡ search_from s from
+  unfolding search_from keys
+  search-read = two (search_of s) (ap (λ (l : List Header). get_or l 1 None) table) (ap (λ (l : List Header). get_or l 2 None) table)
 
 -- the message of each first line
 abbrev pub notified : List ℕ → ParseAnswer

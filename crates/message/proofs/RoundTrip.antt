@@ -12,15 +12,14 @@ use Rattle.text.specs.Good.{good_text}
 use Rattle.text.specs.Number.{number, unsigned, more, value, max8}
 use Rattle.text.specs.Utf8.{utf8, rest, lead_of}
 use Rattle.text.specs.White.{leading, trailing, run, white_space, begins}
-use Rattle.text.specs.declared.number.Number.TheVariants.{Value}
 use Rattle.text.specs.declared.white.Place.{Place}
 use Rattle.message.specs.Build.{HeaderField, field, message, search_headers, response_headers, notify_headers, byebye_headers, search_text, response_text, notify_text, byebye_text, search_line, response_line, notify_line, host_text, max_age_text, server_text, boot_headers}
 use Rattle.message.specs.Headers.{header}
 use Rattle.message.specs.Parse.{ParseAnswer, reads, field_at, parsed}
 use Rattle.message.specs.RoundTrip as trip
 use Rattle.message.specs.RoundTrip.{Content, content_of, read, RoundTrip}
-use Rattle.message.specs.declared.headers.Header.{Header}
-use Rattle.message.specs.declared.headers.Header.TheVariants.{Absent, At}
+use Rattle.message.specs.Headers.{Header}
+use Rattle.std.specs.Prelude.{None, Some}
 use Rattle.message.specs.declared.Message.TheVariants.{NotifyAlive, NotifyByeBye, Response}
 use Rattle.message.proofs.Reading.{given2, given3, is-alive, is-byebye, is-search, by_line, with_start}
 use Rattle.message.proofs.Written.{Sound, AllSound, no_more, one_more, seen, value_in, message-some, message-encoded, message-start, message-header}
@@ -28,12 +27,12 @@ use Rattle.message.proofs.Written.{Sound, AllSound, no_more, one_more, seen, val
 -- a header that is there, and what stands at its place
 record There (s : List ℕ) (h : Header) (t : List ℕ) : Type 0 where
   place : Place
-  is : h ≡ At place
+  is : h ≡ Some place
   text : field_at s place ≡ t
 
 there : (s : List ℕ) (h : Header) {t : List ℕ} → seen s h ≡ some t → There s h t
-there s (At p) e = record { place = p; is = refl; text = cc }
-there s Absent e = absurd (let z : ◌≡◌ {A = ℕ} 0 1 = cc in omega arith)
+there s (Some p) e = record { place = p; is = refl; text = cc }
+there s None e = absurd (let z : ◌≡◌ {A = ℕ} 0 1 = cc in omega arith)
 
 module _ (first : List ℕ) (start : good_text first ≡ true) {hs : List HeaderField} (f : AllSound hs) where
   holds : (key : List ℕ) {t : List ℕ} → value_in key hs ≡ some t → There (message first hs) (header (message first hs) key) t
@@ -66,7 +65,7 @@ record Fixed : Type 0 where
   group : good_text host_text ≡ true
   discover : good_text (bytes "\"ssdp:discover\"") ≡ true
   five : good_text (bytes "5") ≡ true
-  seconds : number max8 (bytes "5") ≡ Value 5
+  seconds : number max8 (bytes "5") ≡ Some 5
   alive : good_text (bytes "ssdp:alive") ≡ true
   byebye : good_text (bytes "ssdp:byebye") ≡ true
   max_age : good_text max_age_text ≡ true

@@ -11,9 +11,8 @@ use lib.ListN.{length, take, drop, length-drop}
 use lib.Seq.{length-take-le}
 use Rattle.text.specs.Good.{good_text}
 use Rattle.text.specs.Put.{overwritten, Put}
-use Rattle.message.specs.Build.{Bounded, type_max, name_max, build_location_max, message_max, any_over_size, any_not_good, build_refusal, Builds, search_text, response_text, notify_text, byebye_text}
+use Rattle.message.specs.Build.{Bounded, type_max, name_max, build_location_max, message_max, any_over_size, any_not_good, build_refusal, Built, Builds, search_text, response_text, notify_text, byebye_text}
 use Rattle.message.specs.Refusals.{accepted, text_over_size, text_not_good, buffer_short}
-use Rattle.message.specs.declared.build.Built.{Built}
 use Rattle.message.proofs.Building.{search-length, response-length, notify-length, byebye-length}
 use Rattle.text.proofs.Writing as puts
 

@@ -21,8 +21,8 @@ use Rattle.text.proofs.GoodText.{Good, good}
 use Rattle.message.specs.Build.{HeaderField, crlf, header_line, header_lines, message}
 use Rattle.message.specs.Headers.{colon, has_colon, shifted, value_of, line_header, later, header_in, after_first, header}
 use Rattle.message.specs.Parse.{field_at, start_line}
-use Rattle.message.specs.declared.headers.Header.{Header}
-use Rattle.message.specs.declared.headers.Header.TheVariants.{Absent, At}
+use Rattle.message.specs.Headers.{Header}
+use Rattle.std.specs.Prelude.{None, Some}
 
 -- a byte that a text lacks
 lacking-step : (b : ℕ) (s t : List ℕ) (x : Bool) → (index_of b s ≡ length s → index_of b (s ++ t) ≡ length s + index_of b t)
@@ -139,8 +139,8 @@ value_there before key (a ∷ t) behind at e s q =
 
 -- what a header holds in a datagram, and what the last of some written headers of a key holds
 abbrev pub seen : List ℕ → Header → Option (List ℕ)
-seen s Absent = none
-seen s (At p) = some (field_at s p)
+seen s None = none
+seen s (Some p) = some (field_at s p)
 
 abbrev pub or_else : Option (List ℕ) → Option (List ℕ) → Option (List ℕ)
 or_else none y = y
@@ -151,10 +151,10 @@ value_in key [] = none
 value_in key (h ∷ hs) = or_else (value_in key hs) (cond (equal_upper h.key key) (some h.value) none)
 
 seen-later : (s : List ℕ) (x y : Header) → seen s (later x y) ≡ or_else (seen s x) (seen s y)
-seen-later s (At p) y = refl
-seen-later s Absent y = refl
+seen-later s (Some p) y = refl
+seen-later s None y = refl
 
-seen-cond : (s : List ℕ) (p : Place) (b : Bool) {v : List ℕ} → field_at s p ≡ v → seen s (cond b (At p) Absent) ≡ cond b (some v) none
+seen-cond : (s : List ℕ) (p : Place) (b : Bool) {v : List ℕ} → field_at s p ≡ v → seen s (cond b (Some p) None) ≡ cond b (some v) none
 seen-cond s p true e = ap some e
 seen-cond s p false e = refl
 
@@ -166,13 +166,13 @@ seen-line key {h} f s before behind at e q =
     let n : colon (text_of h) ≡ length h.key = text-colon f in
     let c : has_colon (text_of h) ≡ true = lt-ltb (colon (text_of h)) (length (text_of h)) (omega (arith, n, text-length h)) in
     let k : take (colon (text_of h)) (text_of h) ≡ h.key = ap (λ (i : ℕ). take i (text_of h)) n ∙ take-append_seam h.key (58 ∷ 32 ∷ h.value) in
-    ap (λ (b : Bool). seen s (cond (b && equal_upper (take (colon (text_of h)) (text_of h)) key) (At (shifted at (value_of (text_of h)))) Absent)) c
-    ∙ ap (λ (l : List ℕ). seen s (cond (equal_upper l key) (At (shifted at (value_of (text_of h)))) Absent)) k
-    ∙ ap (λ (p : Place). seen s (cond (equal_upper h.key key) (At (shifted at p)) Absent)) (value-of f)
+    ap (λ (b : Bool). seen s (cond (b && equal_upper (take (colon (text_of h)) (text_of h)) key) (Some (shifted at (value_of (text_of h)))) None)) c
+    ∙ ap (λ (l : List ℕ). seen s (cond (equal_upper l key) (Some (shifted at (value_of (text_of h)))) None)) k
+    ∙ ap (λ (p : Place). seen s (cond (equal_upper h.key key) (Some (shifted at p)) None)) (value-of f)
     ∙ seen-cond s (shifted at (shifted (length h.key + 1) (place h.value))) (equal_upper h.key key) (value_there before h.key h.value behind at e s q)
 
 -- the blank line holds nothing
-blank-line : (key : List ℕ) (at : ℕ) → header_in key at (lines crlf) ≡ Absent
+blank-line : (key : List ℕ) (at : ℕ) → header_in key at (lines crlf) ≡ None
 unfolding header_in lines bare without line_header index_of first_place
 blank-line key at = refl
 

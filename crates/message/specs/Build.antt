@@ -1,10 +1,11 @@
 -- What the `build_*` write and when they refuse: document 01, 'Messages' ("Built texts are those of the Rust") and 'Who can be turned away'.
-use Rattle.std.specs.Prelude.{ℕ, ◌≡◌, Bool, false, cond, not, ◌||◌, List, [], ◌∷◌, ◌++◌, eqb, ltb, length, drop}
+use Rattle.std.specs.Prelude.{codes, ℕ, ◌≡◌, Bool, false, cond, not, ◌||◌, List, [], ◌∷◌, ◌++◌, eqb, ltb, length, drop, Result, Ok, Err}
 use Prim.Native.String.{String}
 use Rattle.text.specs.Bytes.{bytes}
 use Rattle.text.specs.Good.{good_text}
 use Rattle.message.specs.Refusals.{accepted, text_over_size, text_not_good, buffer_short}
-use Rattle.message.specs.declared.build.Built.{Built}
+use Rattle.message.specs.declared.build.BuildError.{BuildError}
+use Rattle.message.specs.declared.build.BuildError.TheVariants.{TextOverSize, TextNotGood, BufferShort}
 
 -- "Type at most 80 bytes, name (USN) 128", "a location in `build_*`: 135"
 abbrev pub type_max : ℕ
@@ -45,6 +46,31 @@ build_refusal texts message_length buffer_length =
     (cond (any_not_good texts) text_not_good
     (cond (ltb buffer_length message_length) buffer_short
     accepted))
+
+-- the number of each error, 0 of none
+abbrev pub build_number : BuildError → ℕ
+build_number TextOverSize = text_over_size
+build_number TextNotGood = text_not_good
+build_number BufferShort = buffer_short
+
+-- and in words
+abbrev pub build_words : BuildError → List ℕ
+build_words TextOverSize = codes "a text over its size"
+build_words TextNotGood = codes "a text that may not stand in a message"
+build_words BufferShort = codes "a buffer shorter than the message"
+
+abbrev pub refused_by : {A : Type 0} → Result A BuildError → ℕ
+refused_by (Ok a) = accepted
+refused_by (Err error) = build_number error
+
+-- what document 01 has a `build_*` answer: the refusal, 0 if there is none, and the length of the message, 0 if it was refused
+pub record Built : Type 0 where
+  pub refusal : ℕ
+  pub len : ℕ
+
+abbrev pub built : Result ℕ BuildError → Built
+built (Ok len) = record { refusal = accepted; len = len }
+built (Err error) = record { refusal = build_number error; len = 0 }
 
 -- what a `build_*` answers and leaves in its buffer: a refused one leaves it as it was and answers length 0
 pub record Builds (texts : List Bounded) (message buffer after : List ℕ) (answer : Built) : Type 0 where

@@ -1,12 +1,16 @@
 -- The header of a key in a datagram: document 01, 'Messages', its first four sentences.
-use Rattle.std.specs.Prelude.{ℕ, suc, ◌+◌, Bool, cond, ◌&&◌, List, [], ◌∷◌, map, ltb, length, take, drop}
+use Rattle.std.specs.Prelude.{ℕ, suc, ◌+◌, Bool, cond, ◌&&◌, List, [], ◌∷◌, Option, None, Some, map, ltb, length, take, drop}
 use Rattle.text.specs.Bytes.{bytes, index_of, equal_upper}
 use Rattle.text.specs.Lines.{lines, bare}
 use Rattle.text.specs.White.{trimmed}
 use Rattle.text.specs.declared.white.Place.{Place}
-use Rattle.message.specs.declared.headers.Header.{Header}
-use Rattle.message.specs.declared.headers.Header.TheVariants.{Absent, At}
-use Rattle.message.specs.declared.headers.Entry.{Entry}
+use Rattle.message.specs.declared.headers.Key.{Key}
+use Rattle.message.specs.declared.headers.Key.TheVariants.{Nt, St, Mx, Nts, Usn, Location}
+use Rattle.message.specs.declared.headers.Headers.{Headers}
+
+-- what a datagram has under a key: nothing, or a value at its place
+abbrev pub Header : Type 0
+Header = Option Place
 
 -- "split at its first colon": the place of a line's first colon; the line's length if it has none
 abbrev pub colon : List ℕ → ℕ
@@ -30,21 +34,21 @@ value_of line = shifted (colon line + 1) (trimmed (drop (colon line + 1) line))
 
 -- what a line that starts at `at` of the datagram holds for a key
 unfoldable pub line_header : List ℕ → ℕ → List ℕ → Header
-line_header key at line = cond (has_key key line) (At (shifted at (value_of line))) Absent
+line_header key at line = cond (has_key key line) (Some (shifted at (value_of line))) None
 
 -- "The last line of a key wins": what is later in the datagram, else what came before
 abbrev pub later : Header → Header → Header
-later (At p) earlier = At p
-later Absent earlier = earlier
+later (Some p) earlier = Some p
+later None earlier = earlier
 
 -- the header of a key in lines that start at `at` of the datagram; "reading goes on past blank lines"
 unfoldable pub header_in : List ℕ → ℕ → List (List ℕ) → Header
-header_in key at [] = Absent
+header_in key at [] = None
 header_in key at (line ∷ rest) = later (header_in key (at + length line) rest) (line_header key at (bare line))
 
 -- "Each line after the first"
 unfoldable pub after_first : List ℕ → List (List ℕ) → Header
-after_first key [] = Absent
+after_first key [] = None
 after_first key (first ∷ rest) = header_in key (length first) rest
 
 -- the header of a key in a datagram
@@ -64,12 +68,18 @@ key_index (key ∷ rest) text = cond (equal_upper text key) 0 (suc (key_index re
 unfoldable pub line_key : List ℕ → ℕ
 line_key line = cond (has_colon line) (key_index keys (take (colon line) line)) 6
 
--- a line's key and the place of its value in the line
-abbrev pub no_entry : Entry
-no_entry = record { key = 6; value = record { start = 0; len = 0 } }
+-- the place of a key among them; of no key their count
+abbrev pub place_of : Key → ℕ
+place_of Nt = 0
+place_of St = 1
+place_of Mx = 2
+place_of Nts = 3
+place_of Usn = 4
+place_of Location = 5
 
-unfoldable pub entry_of : List ℕ → Entry
-entry_of line = cond (ltb (line_key line) 6) (record { key = line_key line; value = value_of line }) no_entry
+abbrev pub number_of : Option Key → ℕ
+number_of None = 6
+number_of (Some key) = place_of key
 
 -- the header of a key in the lines from `from` on, and the headers of all the keys
 abbrev pub header_from : List ℕ → ℕ → List ℕ → Header
@@ -77,3 +87,7 @@ header_from s from key = header_in key from (lines (drop from s))
 
 abbrev pub headers_from : List ℕ → ℕ → List Header
 headers_from s from = map (header_from s from) keys
+
+-- the code's table of headers, in the order of the keys
+abbrev pub listed : Headers → List Header
+listed h = h.nt ∷ h.st ∷ h.mx ∷ h.nts ∷ h.usn ∷ h.location ∷ []

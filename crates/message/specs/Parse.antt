@@ -1,27 +1,23 @@
 -- What `parse` answers: document 01, 'Messages', from "First lines are exact" on; UPnP Device Architecture 1.0, section 1, names the messages and their headers.
-use Rattle.std.specs.Prelude.{ℕ, cond, not, List, eqb, length, take, drop}
-use Rattle.std.proofs.Math.Option.{Option, none, some}
+use Rattle.std.specs.Prelude.{codes, ℕ, cond, not, List, eqb, length, take, drop, Option, None, Some, Result, Ok, Err}
+use Rattle.std.proofs.Math.Option.{Option as Maybe, none, some}
 use Rattle.text.specs.Bytes.{bytes, equal}
 use Rattle.text.specs.Lines.{first_line}
 use Rattle.text.specs.Number.{number, max8}
 use Rattle.text.specs.Utf8.{utf8}
-use Rattle.text.specs.declared.number.Number.{Number}
-use Rattle.text.specs.declared.number.Number.TheVariants.{Value, Invalid as NoNumber}
 use Rattle.text.specs.declared.white.Place.{Place}
 use Rattle.message.specs.Refusals.{accepted, datagram_empty, datagram_invalid}
 use Rattle.message.specs.Build.{notify_line, response_line, search_line}
-use Rattle.message.specs.Headers.{header, header_from}
-use Rattle.message.specs.declared.headers.Header.{Header}
-use Rattle.message.specs.declared.headers.Header.TheVariants.{Absent, At}
+use Rattle.message.specs.Headers.{Header, header, header_from}
 use Rattle.message.specs.declared.Message.{Message}
 use Rattle.message.specs.declared.Message.TheVariants.{NotifyAlive, NotifyByeBye, Search, Response}
-use Rattle.message.specs.declared.Parsed.{Parsed}
-use Rattle.message.specs.declared.Parsed.TheVariants.{Message as Says, Empty, Invalid}
+use Rattle.message.specs.declared.ParseError.{ParseError}
+use Rattle.message.specs.declared.ParseError.TheVariants.{Empty, Invalid}
 
 -- what document 01 has `parse` answer: a number, and the message where that is 0
 pub record ParseAnswer : Type 0 where
   pub refusal : ℕ
-  pub message : Option Message
+  pub message : Maybe Message
 
 abbrev pub reads : Message → ParseAnswer
 reads message = record { refusal = accepted; message = some message }
@@ -29,11 +25,25 @@ reads message = record { refusal = accepted; message = some message }
 abbrev pub refuses : ℕ → ParseAnswer
 refuses number = record { refusal = number; message = none }
 
--- the number and the message for each case of the code's answer; "`parse` called alone gives only 7 and 8"
-abbrev pub answer_of : Parsed → ParseAnswer
-answer_of (Says message) = reads message
-answer_of Empty = refuses datagram_empty
-answer_of Invalid = refuses datagram_invalid
+-- "`parse` called alone gives only 7 and 8"
+abbrev pub number_of : ParseError → ℕ
+number_of Empty = datagram_empty
+number_of Invalid = datagram_invalid
+
+-- and in words
+abbrev pub words_of : ParseError → List ℕ
+words_of Empty = codes "an empty datagram"
+words_of Invalid = codes "no message"
+
+-- the number and the message for each case of the code's answer
+abbrev pub answer_of : Result Message ParseError → ParseAnswer
+answer_of (Ok message) = reads message
+answer_of (Err error) = refuses (number_of error)
+
+-- the same of a datagram that is not empty
+abbrev pub said : Option Message → ParseAnswer
+said (Some message) = reads message
+said None = refuses datagram_invalid
 
 -- "Each field is handed back as the place it occupies in the datagram": what stands at a place
 abbrev pub field_at : List ℕ → Place → List ℕ
@@ -41,8 +51,8 @@ field_at datagram place = take place.len (drop place.start datagram)
 
 -- a message with a field that a header gives; "8 any other `parse` error" where the header is missing
 abbrev pub given : Header → (Place → ParseAnswer) → ParseAnswer
-given (At place) message = message place
-given Absent message = refuses datagram_invalid
+given (Some place) message = message place
+given None message = refuses datagram_invalid
 
 -- "`ssdp:alive` (NT, USN, LOCATION)"
 abbrev pub alive_of : Header → Header → Header → ParseAnswer
@@ -65,9 +75,9 @@ abbrev pub response_of : Header → Header → Header → ParseAnswer
 response_of st usn location = given st (λ t. given usn (λ u. given location (λ l. reads (Response t u l))))
 
 -- "`M-SEARCH * HTTP/1.1` (ST, MX in 8 bits)"
-abbrev pub search_in : Place → Number → ParseAnswer
-search_in target (Value seconds) = reads (Search target seconds)
-search_in target NoNumber = refuses datagram_invalid
+abbrev pub search_in : Place → Option ℕ → ParseAnswer
+search_in target (Some seconds) = reads (Search target seconds)
+search_in target None = refuses datagram_invalid
 
 abbrev pub search_of : List ℕ → Header → Header → ParseAnswer
 search_of s st mx = given st (λ t. given mx (λ p. search_in t (number max8 (field_at s p))))

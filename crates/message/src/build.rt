@@ -1,9 +1,11 @@
 // The four messages, written into a lent buffer: document 01, 'Messages' and 'Who can be turned away' (3, 4, 6).
-ghost use Rattle.std.specs.Prelude.{◌≡◌, ◌++◌, ◌+◌, ◌≤◌, length};
+ghost use Rattle.std.specs.Prelude.{◌≡◌, ◌++◌, ◌+◌, ◌≤◌, length, Some};
 ghost use Rattle.text.specs.Good.{good_text};
 ghost use Rattle.text.specs.Put.{Put};
-ghost use Rattle.message.specs.Build.{Builds, build_refusal, search_texts, byebye_texts, located_texts, search_text, response_text, notify_text, byebye_text, header_line, field, crlf, host_text, max_age_text, notify_line};
+ghost use Rattle.message.specs.Build.{Builds, build_number, build_words, refused_by, built, build_refusal, search_texts, byebye_texts, located_texts, search_text, response_text, notify_text, byebye_text, header_line, field, crlf, host_text, max_age_text, notify_line};
 
+use std::error::Error;
+use std::fmt;
 use text::{buffer, good};
 
 // The largest sizes of the texts that go into a message.
@@ -22,14 +24,35 @@ const NOTIFY_BESIDES: usize = 163;
 
 const BYEBYE_BESIDES: usize = 152;
 
-// Refusal numbers, and that of no refusal.
-pub(crate) const ACCEPTED: u32 = 0;
+// Why a message is not built, with document 01's numbers.
+#[derive(Clone, Copy, Debug, PartialEq, Eq)]
+pub enum BuildError {
+    TextOverSize = 3,
+    TextNotGood = 4,
+    BufferShort = 6,
+}
 
-pub const TEXT_OVER_SIZE: u32 = 3;
+impl BuildError {
+    pub fn number(self) -> u32
+        ensures { result ≡ build_number self }
+    {
+        self as u32
+    }
+}
 
-pub const TEXT_NOT_GOOD: u32 = 4;
+impl fmt::Display for BuildError {
+    ghost output = { λ e. Some (build_words e) };
 
-const BUFFER_SHORT: u32 = 6;
+    fn fmt<W: fmt::Write>(&self, f: &mut fmt::Formatter<W>) -> fmt::Result {
+        f.write_str(match self {
+            BuildError::TextOverSize => "a text over its size",
+            BuildError::TextNotGood => "a text that may not stand in a message",
+            BuildError::BufferShort => "a buffer shorter than the message",
+        })
+    }
+}
+
+impl Error for BuildError {}
 
 // Lines that several messages have.
 const HOST: [u8; 28] = *b"HOST: 239.255.255.250:1900\r\n";
@@ -38,14 +61,8 @@ const MAX_AGE: [u8; 29] = *b"CACHE-CONTROL: max-age=1800\r\n";
 
 const SERVER_AND_END: [u8; 45] = *b"SERVER: none/0 UPnP/1.0 cotton-ssdp/1.0.0\r\n\r\n";
 
-// What a build answers: the refusal, 0 if there is none, and the length of the message, 0 if it was refused.
-#[derive(Clone, Copy)]
-pub struct Built {
-    pub refusal: u32,
-    pub len: usize,
-}
-
-// Writes `text`, which fits, into `buf` from `at` on and answers the place behind it.
+// Writes `text`, which fits, into `buf` from `at` on and answers the place behind it. A public function asks nothing of its caller, so that the text crate has none such. Buffer and
+// place go side by side: of a struct that holds a lent buffer each contract would have to say that it still holds the same one.
 fn put(buf: &mut [u8], at: usize, text: &[u8]) -> usize
     requires { at + length text.now ≤ length buf.old }
     ensures { Put buf.old at text.now buf.new result }
@@ -121,55 +138,47 @@ fn put_byebye(buf: &mut [u8], service: &[u8], name: &[u8]) -> usize
     put(buf, d, &SERVER_AND_END)
 }
 
-// Whether a text that a message may lack is good. One that it lacks is handed in empty, and is so without a look.
+// Whether a text that a message may lack is good. One that it lacks is handed in empty, and is so without a look:
+// an empty one passes too, so that an Option would say the same.
+#[tactic(auto, using(crate::proofs::Building::good_missing))]
 fn missing_or_good(text: &[u8]) -> bool
     ensures { result ≡ good_text text.now }
 {
-    if text.len() == 0 {
-        return true;
-    }
-    good::is_good(text)
+    text.is_empty() || good::is_good(text)
 }
 
-// The refusal of three texts for a message of `besides` bytes more, in a buffer of `room` bytes. A message that lacks a text hands in an empty one.
-fn refusal_of(service: &[u8], name: &[u8], location: &[u8], besides: usize, room: usize) -> u32
+// Whether three texts may stand in a message of `besides` bytes more, in a buffer of `room` bytes. A message that lacks a text hands in an empty one.
+#[tactic(auto, unfolding(crate::specs::Build::build_refusal))]
+fn check(
+    service: &[u8],
+    name: &[u8],
+    location: &[u8],
+    besides: usize,
+    room: usize,
+) -> Result<(), BuildError>
     requires { besides ≤ 163 }
-    ensures { result ≡ build_refusal (located_texts service.now name.now location.now) (besides + (length service.now + (length name.now + length location.now))) room }
+    ensures { refused_by result ≡ build_refusal (located_texts service.now name.now location.now) (besides + (length service.now + (length name.now + length location.now))) room }
 {
-    if TYPE_MAX < service.len() {
-        return TEXT_OVER_SIZE;
+    if TYPE_MAX < service.len() || NAME_MAX < name.len() || LOCATION_MAX < location.len() {
+        return Err(BuildError::TextOverSize);
     }
-    if NAME_MAX < name.len() {
-        return TEXT_OVER_SIZE;
-    }
-    if LOCATION_MAX < location.len() {
-        return TEXT_OVER_SIZE;
-    }
-    if !good::is_good(service) {
-        return TEXT_NOT_GOOD;
-    }
-    if !missing_or_good(name) {
-        return TEXT_NOT_GOOD;
-    }
-    if !missing_or_good(location) {
-        return TEXT_NOT_GOOD;
+    if !(good::is_good(service) && missing_or_good(name) && missing_or_good(location)) {
+        return Err(BuildError::TextNotGood);
     }
     if room < besides + (service.len() + (name.len() + location.len())) {
-        return BUFFER_SHORT;
+        return Err(BuildError::BufferShort);
     }
-    ACCEPTED
+    Ok(())
 }
 
+// ---- a build each: every message has its own texts, and its own definition, which the contract names
+
 // "M-SEARCH": asks who offers `search_type`.
-pub fn build_search(buf: &mut [u8], search_type: &[u8]) -> Built
-    ensures { Builds (search_texts search_type.now) (search_text search_type.now) buf.old buf.new result }
+pub fn build_search(buf: &mut [u8], search_type: &[u8]) -> Result<usize, BuildError>
+    ensures { Builds (search_texts search_type.now) (search_text search_type.now) buf.old buf.new (built result) }
 {
-    let refusal = refusal_of(search_type, b"", b"", SEARCH_BESIDES, buf.len());
-    if refusal != ACCEPTED {
-        return Built { refusal, len: 0 };
-    }
-    let len = put_search(buf, search_type);
-    Built { refusal, len }
+    check(search_type, b"", b"", SEARCH_BESIDES, buf.len())?;
+    Ok(put_search(buf, search_type))
 }
 
 // The answer to a search.
@@ -178,21 +187,17 @@ pub fn build_response(
     search_target: &[u8],
     unique_service_name: &[u8],
     location: &[u8],
-) -> Built
-    ensures { Builds (located_texts search_target.now unique_service_name.now location.now) (response_text search_target.now unique_service_name.now location.now) buf.old buf.new result }
+) -> Result<usize, BuildError>
+    ensures { Builds (located_texts search_target.now unique_service_name.now location.now) (response_text search_target.now unique_service_name.now location.now) buf.old buf.new (built result) }
 {
-    let refusal = refusal_of(
+    check(
         search_target,
         unique_service_name,
         location,
         RESPONSE_BESIDES,
         buf.len(),
-    );
-    if refusal != ACCEPTED {
-        return Built { refusal, len: 0 };
-    }
-    let len = put_response(buf, search_target, unique_service_name, location);
-    Built { refusal, len }
+    )?;
+    Ok(put_response(buf, search_target, unique_service_name, location))
 }
 
 // "ssdp:alive": says that a service is there.
@@ -201,37 +206,33 @@ pub fn build_notify(
     notification_type: &[u8],
     unique_service_name: &[u8],
     location: &[u8],
-) -> Built
-    ensures { Builds (located_texts notification_type.now unique_service_name.now location.now) (notify_text notification_type.now unique_service_name.now location.now) buf.old buf.new result }
+) -> Result<usize, BuildError>
+    ensures { Builds (located_texts notification_type.now unique_service_name.now location.now) (notify_text notification_type.now unique_service_name.now location.now) buf.old buf.new (built result) }
 {
-    let refusal = refusal_of(
+    check(
         notification_type,
         unique_service_name,
         location,
         NOTIFY_BESIDES,
         buf.len(),
-    );
-    if refusal != ACCEPTED {
-        return Built { refusal, len: 0 };
-    }
-    let len = put_alive(buf, notification_type, unique_service_name, location);
-    Built { refusal, len }
+    )?;
+    Ok(put_alive(buf, notification_type, unique_service_name, location))
 }
 
 // "ssdp:byebye": says that a service goes.
-pub fn build_byebye(buf: &mut [u8], notification_type: &[u8], unique_service_name: &[u8]) -> Built
-    ensures { Builds (byebye_texts notification_type.now unique_service_name.now) (byebye_text notification_type.now unique_service_name.now) buf.old buf.new result }
+pub fn build_byebye(
+    buf: &mut [u8],
+    notification_type: &[u8],
+    unique_service_name: &[u8],
+) -> Result<usize, BuildError>
+    ensures { Builds (byebye_texts notification_type.now unique_service_name.now) (byebye_text notification_type.now unique_service_name.now) buf.old buf.new (built result) }
 {
-    let refusal = refusal_of(
+    check(
         notification_type,
         unique_service_name,
         b"",
         BYEBYE_BESIDES,
         buf.len(),
-    );
-    if refusal != ACCEPTED {
-        return Built { refusal, len: 0 };
-    }
-    let len = put_byebye(buf, notification_type, unique_service_name);
-    Built { refusal, len }
+    )?;
+    Ok(put_byebye(buf, notification_type, unique_service_name))
 }

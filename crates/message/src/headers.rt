@@ -1,120 +1,121 @@
 // The headers of a datagram, read in one pass: document 01, 'Messages'.
-ghost use Rattle.std.specs.Prelude.{◌≡◌};
-ghost use Rattle.message.specs.Headers.{keys, key_index, no_entry, entry_of, headers_from};
+ghost use Rattle.std.specs.Prelude.{◌≡◌, MatchOption, Some, set};
+ghost use Rattle.message.specs.Headers.{keys, key_index, place_of, number_of, line_key, value_of, listed, headers_from};
 
 use text::white::Place;
 use text::{bytes, lines, white};
 
-// What a datagram has under a key: nothing, or a value at its place.
-#[derive(Clone, Copy)]
-pub enum Header {
-    Absent,
-    At(Place),
+// The keys that are looked up.
+#[derive(Clone, Copy, Debug, PartialEq, Eq)]
+pub enum Key {
+    Nt,
+    St,
+    Mx,
+    Nts,
+    Usn,
+    Location,
 }
 
-// A line's key, OTHER if it is none of those looked up, and the place of its value in the line.
+// A line's key, and the place of its value in the line.
 #[derive(Clone, Copy)]
 pub struct Entry {
-    pub key: usize,
+    pub key: Key,
     pub value: Place,
 }
 
-// The keys that are looked up.
-pub const NT: usize = 0;
+// What a datagram has under each key: the place of its last value, if it has one.
+#[derive(Clone, Copy, Default)]
+pub struct Headers {
+    pub nt: Option<Place>,
+    pub st: Option<Place>,
+    pub mx: Option<Place>,
+    pub nts: Option<Place>,
+    pub usn: Option<Place>,
+    pub location: Option<Place>,
+}
 
-pub const ST: usize = 1;
+impl Headers {
+    // The value of a key, in place of an earlier one.
+    fn note(&mut self, key: Key, value: Place)
+        ensures { listed self.new ≡ set (listed self.old) (place_of key) (Some value) }
+    {
+        let value = Some(value);
+        match key {
+            Key::Nt => self.nt = value,
+            Key::St => self.st = value,
+            Key::Mx => self.mx = value,
+            Key::Nts => self.nts = value,
+            Key::Usn => self.usn = value,
+            Key::Location => self.location = value,
+        }
+    }
+}
 
-pub const MX: usize = 2;
-
-pub const NTS: usize = 3;
-
-pub const USN: usize = 4;
-
-pub const LOCATION: usize = 5;
-
-const OTHER: usize = 6;
-
-// Which key a text is, in any case of its letters. Its length tells which keys it can be.
-fn key_of(text: &[u8]) -> usize
-    ensures { result ≡ key_index keys text.now }
+// Which key a text is, in any case of its letters. Its length tells which keys it can be; a table of six would compare a text with each.
+#[tactic(auto, using(crate::proofs::Keys::unlike), unfolding(text::specs::Bytes::bytes, crate::specs::Headers::keys, crate::specs::Headers::key_index))]
+fn key_of(text: &[u8]) -> Option<Key>
+    ensures { number_of result ≡ key_index keys text.now }
 {
     if text.len() == 2 {
         if bytes::equal_upper(text, b"NT") {
-            return NT;
+            return Some(Key::Nt);
         }
         if bytes::equal_upper(text, b"ST") {
-            return ST;
+            return Some(Key::St);
         }
         if bytes::equal_upper(text, b"MX") {
-            return MX;
+            return Some(Key::Mx);
         }
-        return OTHER;
+        return None;
     }
     if text.len() == 3 {
         if bytes::equal_upper(text, b"NTS") {
-            return NTS;
+            return Some(Key::Nts);
         }
         if bytes::equal_upper(text, b"USN") {
-            return USN;
+            return Some(Key::Usn);
         }
-        return OTHER;
+        return None;
     }
     if bytes::equal_upper(text, b"LOCATION") {
-        return LOCATION;
+        return Some(Key::Location);
     }
-    OTHER
-}
-
-fn no_entry() -> Entry
-    ensures { result ≡ no_entry }
-{
-    Entry {
-        key: OTHER,
-        value: Place { start: 0, len: 0 },
-    }
+    None
 }
 
 // The entry of a line without its end. Only the value of a key that is looked up is trimmed.
-fn entry_of(line: &[u8]) -> Entry
-    ensures { result ≡ entry_of line.now }
+fn entry_of(line: &[u8]) -> Option<Entry>
+    ensures { MatchOption result (line_key line.now ≡ 6) (λ entry. (place_of entry.key ≡ line_key line.now) × (entry.value ≡ value_of line.now)) }
 {
-    let colon = bytes::find(line, 58);
-    if line.len() <= colon {
-        return no_entry();
-    }
-    let key = key_of(&line[..colon]);
-    if OTHER <= key {
-        return no_entry();
-    }
+    let colon = bytes::find(line, b':')?;
+    let key = key_of(&line[..colon])?;
     let behind = colon + 1;
     let value = white::trim(&line[behind..]);
-    Entry {
+    Some(Entry {
         key,
         value: Place {
             start: behind + value.start,
             len: value.len,
         },
-    }
+    })
 }
 
-// The headers of the lines from `from` on, each at its key's place in the table.
-pub fn headers_from(s: &[u8], from: usize) -> [Header; 6]
-    ensures { result ≡ headers_from s.now from }
+// The headers of the lines from `from` on. The place goes on by whole lines: an iterator of lines would be a type of its own with this very step.
+pub fn headers_from(s: &[u8], from: usize) -> Headers
+    ensures { listed result ≡ headers_from s.now from }
 {
-    let mut latest = [Header::Absent; 6];
+    let mut latest = Headers::default();
     let mut at = from;
     while at < s.len() {
         let rest = &s[at..];
         let line = lines::first_line(rest);
         let n = line.len;
-        let entry = entry_of(&rest[..n]);
-        let key = entry.key;
-        let start = at + entry.value.start;
-        let len = entry.value.len;
-        at += line.next;
-        if key < OTHER {
-            latest[key] = Header::At(Place { start, len });
+        if let Some(Entry { key, value }) = entry_of(&rest[..n]) {
+            let start = at + value.start;
+            let len = value.len;
+            latest.note(key, Place { start, len });
         }
+        at += line.next;
     }
     latest
 }

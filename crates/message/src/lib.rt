@@ -2,27 +2,19 @@
 // Contracts cite specs/Parse.antt, specs/Headers.antt and specs/Build.antt.
 #![tactic(auto)]
 
-ghost use Rattle.std.specs.Prelude.{◌≡◌};
-ghost use Rattle.message.specs.Parse.{field_at, alive_of, byebye_of, notify_of, response_of, search_of, notify_from, response_from, search_from, parsed, answer_of};
+ghost use Rattle.std.specs.Prelude.{◌≡◌, ◌≢◌, length, Some};
+ghost use Rattle.message.specs.Parse.{field_at, alive_of, byebye_of, notify_of, response_of, search_of, notify_from, response_from, search_from, parsed, number_of, words_of, said, answer_of};
 
-use crate::headers::{Header, LOCATION, MX, NT, NTS, ST, USN};
-use text::number::Number;
+use crate::headers::Headers;
+use std::error::Error;
+use std::fmt;
 use text::white::Place;
-use text::{bytes, lines, number, utf8};
+use text::{bytes, lines, number, utf8, white};
 
 pub mod build;
 pub mod headers;
 
-use build::ACCEPTED;
-pub use build::{Built, build_byebye, build_notify, build_response, build_search};
-
-// MX has 8 bits.
-const MX_MAX: u64 = 255;
-
-// Document 01's numbers for what `parse` refuses.
-const DATAGRAM_EMPTY: u32 = 7;
-
-const DATAGRAM_INVALID: u32 = 8;
+pub use build::{BuildError, build_byebye, build_notify, build_response, build_search};
 
 // What a datagram says: its fields are places in it.
 #[derive(Clone, Copy)]
@@ -47,172 +39,136 @@ pub enum Message {
     },
 }
 
-// What `parse` answers: the message, or why there is none.
-#[derive(Clone, Copy)]
-pub enum Parsed {
-    Message(Message),
-    Empty,
-    Invalid,
+// Why a datagram is no message, with document 01's numbers.
+#[derive(Clone, Copy, Debug, PartialEq, Eq)]
+pub enum ParseError {
+    Empty = 7,
+    Invalid = 8,
 }
+
+impl ParseError {
+    pub fn number(self) -> u32
+        ensures { result ≡ number_of self }
+    {
+        self as u32
+    }
+}
+
+impl fmt::Display for ParseError {
+    ghost output = { λ e. Some (words_of e) };
+
+    fn fmt<W: fmt::Write>(&self, f: &mut fmt::Formatter<W>) -> fmt::Result {
+        f.write_str(match self {
+            ParseError::Empty => "an empty datagram",
+            ParseError::Invalid => "no message",
+        })
+    }
+}
+
+impl Error for ParseError {}
 
 // What stands at a place; nothing of it where the datagram has ended.
 pub fn field(s: &[u8], place: Place) -> &[u8]
     ensures { result.now ≡ field_at s.now place }
 {
-    let start = place.start;
-    let len = place.len;
-    if s.len() <= start {
-        return &s[..0];
-    }
-    let rest = &s[start..];
-    if rest.len() <= len {
-        return rest;
-    }
-    &rest[..len]
+    white::part_of(s, place)
 }
 
-fn alive_of(nt: Header, usn: Header, location: Header) -> Parsed
-    ensures { answer_of result ≡ alive_of nt usn location }
+// ---- one message each, which has headers and a definition of its own: one function for two of them would take the message as a closure
+
+fn alive_of(h: Headers) -> Option<Message>
+    ensures { said result ≡ alive_of h.nt h.usn h.location }
 {
-    let Header::At(notification_type) = nt else {
-        return Parsed::Invalid;
-    };
-    let Header::At(unique_service_name) = usn else {
-        return Parsed::Invalid;
-    };
-    let Header::At(location) = location else {
-        return Parsed::Invalid;
-    };
-    Parsed::Message(Message::NotifyAlive {
-        notification_type,
-        unique_service_name,
-        location,
+    Some(Message::NotifyAlive {
+        notification_type: h.nt?,
+        unique_service_name: h.usn?,
+        location: h.location?,
     })
 }
 
-fn byebye_of(nt: Header, usn: Header) -> Parsed
-    ensures { answer_of result ≡ byebye_of nt usn }
+fn byebye_of(h: Headers) -> Option<Message>
+    ensures { said result ≡ byebye_of h.nt h.usn }
 {
-    let Header::At(notification_type) = nt else {
-        return Parsed::Invalid;
-    };
-    let Header::At(unique_service_name) = usn else {
-        return Parsed::Invalid;
-    };
-    Parsed::Message(Message::NotifyByeBye {
-        notification_type,
-        unique_service_name,
+    Some(Message::NotifyByeBye {
+        notification_type: h.nt?,
+        unique_service_name: h.usn?,
     })
 }
 
-fn notify_of(s: &[u8], nts: Header, nt: Header, usn: Header, location: Header) -> Parsed
-    ensures { answer_of result ≡ notify_of s.now nts nt usn location }
+#[tactic(auto, unfolding(text::specs::Bytes::bytes))]
+fn notify_of(s: &[u8], h: Headers) -> Option<Message>
+    ensures { said result ≡ notify_of s.now h.nts h.nt h.usn h.location }
 {
-    let Header::At(place) = nts else {
-        return Parsed::Invalid;
-    };
-    let nts = field(s, place);
+    let nts = field(s, h.nts?);
     if bytes::equal(nts, b"ssdp:alive") {
-        return alive_of(nt, usn, location);
+        return alive_of(h);
     }
     if bytes::equal(nts, b"ssdp:byebye") {
-        return byebye_of(nt, usn);
+        return byebye_of(h);
     }
-    Parsed::Invalid
+    None
 }
 
-fn response_of(st: Header, usn: Header, location: Header) -> Parsed
-    ensures { answer_of result ≡ response_of st usn location }
+fn response_of(h: Headers) -> Option<Message>
+    ensures { said result ≡ response_of h.st h.usn h.location }
 {
-    let Header::At(search_target) = st else {
-        return Parsed::Invalid;
-    };
-    let Header::At(unique_service_name) = usn else {
-        return Parsed::Invalid;
-    };
-    let Header::At(location) = location else {
-        return Parsed::Invalid;
-    };
-    Parsed::Message(Message::Response {
-        search_target,
-        unique_service_name,
-        location,
+    Some(Message::Response {
+        search_target: h.st?,
+        unique_service_name: h.usn?,
+        location: h.location?,
     })
 }
 
-fn search_of(s: &[u8], st: Header, mx: Header) -> Parsed
-    ensures { answer_of result ≡ search_of s.now st mx }
+fn search_of(s: &[u8], h: Headers) -> Option<Message>
+    ensures { said result ≡ search_of s.now h.st h.mx }
 {
-    let Header::At(search_target) = st else {
-        return Parsed::Invalid;
-    };
-    let Header::At(place) = mx else {
-        return Parsed::Invalid;
-    };
-    let Number::Value(seconds) = number::up_to(field(s, place), MX_MAX) else {
-        return Parsed::Invalid;
-    };
-    Parsed::Message(Message::Search {
-        search_target,
-        maximum_wait_sec: seconds as u8,
+    Some(Message::Search {
+        search_target: h.st?,
+        maximum_wait_sec: number::parse::<u8>(field(s, h.mx?))?,
     })
 }
 
-// The message of each first line, from the headers of the lines from `from` on.
-fn notify_from(s: &[u8], from: usize) -> Parsed
-    ensures { answer_of result ≡ notify_from s.now from }
+// The message of a datagram that is not empty, by its first line and the headers of the lines behind it. A first line of no kind needs no look at the headers.
+fn message_in(buf: &[u8]) -> Option<Message>
+    requires { length buf.now ≢ 0 }
+    ensures { said result ≡ parsed buf.now }
 {
-    let h = headers::headers_from(s, from);
-    notify_of(s, h[NTS], h[NT], h[USN], h[LOCATION])
-}
-
-fn response_from(s: &[u8], from: usize) -> Parsed
-    ensures { answer_of result ≡ response_from s.now from }
-{
-    let h = headers::headers_from(s, from);
-    response_of(h[ST], h[USN], h[LOCATION])
-}
-
-fn search_from(s: &[u8], from: usize) -> Parsed
-    ensures { answer_of result ≡ search_from s.now from }
-{
-    let h = headers::headers_from(s, from);
-    search_of(s, h[ST], h[MX])
-}
-
-// The message of a datagram, if it is one. A first line of no kind needs no look at the headers.
-pub fn parse(buf: &[u8]) -> Parsed
-    ensures { answer_of result ≡ parsed buf.now }
-{
-    if buf.len() == 0 {
-        return Parsed::Empty;
-    }
     if !utf8::is_utf8(buf) {
-        return Parsed::Invalid;
+        return None;
     }
     let line = lines::first_line(buf);
     let len = line.len;
     let next = line.next;
     let first = &buf[..len];
     if bytes::equal(first, b"NOTIFY * HTTP/1.1") {
-        return notify_from(buf, next);
+        return notify_of(buf, headers::headers_from(buf, next));
     }
     if bytes::equal(first, b"HTTP/1.1 200 OK") {
-        return response_from(buf, next);
+        return response_of(headers::headers_from(buf, next));
     }
     if bytes::equal(first, b"M-SEARCH * HTTP/1.1") {
-        return search_from(buf, next);
+        return search_of(buf, headers::headers_from(buf, next));
     }
-    Parsed::Invalid
+    None
 }
 
-// Document 01's number for an answer: 0 for a message, else its refusal.
-pub fn refusal_of(answer: Parsed) -> u32
+// The message of a datagram, if it is one.
+#[tactic(auto, using(crate::proofs::Reading::is_empty))]
+pub fn parse(buf: &[u8]) -> Result<Message, ParseError>
+    ensures { answer_of result ≡ parsed buf.now }
+{
+    if buf.is_empty() {
+        return Err(ParseError::Empty);
+    }
+    message_in(buf).ok_or(ParseError::Invalid)
+}
+
+// Document 01's number for an answer: 0 for a message, else its refusal. A host's answers are numbers, and 0 is an accepted one's there.
+pub fn refusal_of(answer: Result<Message, ParseError>) -> u32
     ensures { result ≡ (answer_of answer).refusal }
 {
     match answer {
-        Parsed::Message(_) => ACCEPTED,
-        Parsed::Empty => DATAGRAM_EMPTY,
-        Parsed::Invalid => DATAGRAM_INVALID,
+        Ok(_) => 0,
+        Err(error) => error.number(),
     }
 }

@@ -5,7 +5,7 @@ use Rattle.text.specs.declared.white.Place.{Place}
 use Rattle.message.specs.Parse.{ParseAnswer}
 use Rattle.message.specs.declared.Message.{Message}
 use Rattle.message.specs.declared.Message.TheVariants.{NotifyAlive, NotifyByeBye, Search, Response}
-use Rattle.message.specs.declared.build.Built.{Built}
+use Rattle.message.specs.Build.{Built}
 use Rattle.message_c.specs.declared.ParsedNumbers.{ParsedNumbers}
 use Rattle.message_c.specs.declared.Written.{Written}
 

@@ -3,14 +3,14 @@
 #![tactic(auto)]
 
 ghost use Rattle.std.specs.Prelude.{◌≡◌};
-ghost use Rattle.message.specs.Build.{Builds, search_texts, byebye_texts, located_texts, search_text, response_text, notify_text, byebye_text};
+ghost use Rattle.message.specs.Build.{Builds, built, search_texts, byebye_texts, located_texts, search_text, response_text, notify_text, byebye_text};
 ghost use Rattle.message.specs.Parse.{answer_of, parsed};
 ghost use Rattle.message_c.specs.Numbers.{flat_of, message_numbers, numbers_of, built_of};
 
-use message::{Message, Parsed};
+use message::{BuildError, Message, ParseError};
 use text::white::Place;
 
-// What `parse` answers: 1 alive, 2 byebye, 3 search, 4 response, or the refusal 7 or 8; then MX, and the start and length
+// What `parse` answers, in numbers alone, since these cross to C: 1 alive, 2 byebye, 3 search, 4 response, or the refusal 7 or 8; then MX, and the start and length
 // of each of the message's fields in their order.
 #[repr(C)]
 #[derive(Clone, Copy)]
@@ -25,6 +25,7 @@ pub struct ParsedNumbers {
     pub third_len: usize,
 }
 
+// What a `build_*` answers, in numbers alone, since these cross to C: the refusal, 0 if there is none, and the length of the message, 0 if it was refused.
 #[repr(C)]
 #[derive(Clone, Copy)]
 pub struct Written {
@@ -32,12 +33,15 @@ pub struct Written {
     pub len: usize,
 }
 
+// No place.
+const NOWHERE: Place = Place { start: 0, len: 0 };
+
 fn flat(kind: u32, mx: u8, a: Place, b: Place, c: Place) -> ParsedNumbers
     ensures { result ≡ flat_of kind mx a b c }
 {
     ParsedNumbers {
-        kind: kind,
-        mx: mx as u32,
+        kind,
+        mx: u32::from(mx),
         first: a.start,
         first_len: a.len,
         second: b.start,
@@ -47,58 +51,70 @@ fn flat(kind: u32, mx: u8, a: Place, b: Place, c: Place) -> ParsedNumbers
     }
 }
 
-fn message_numbers(m: Message) -> ParsedNumbers
-    ensures { result ≡ message_numbers m }
-{
-    let none = Place { start: 0, len: 0 };
-    match m {
-        Message::NotifyAlive {
-            notification_type,
-            unique_service_name,
-            location,
-        } => flat(1, 0, notification_type, unique_service_name, location),
-        Message::NotifyByeBye {
-            notification_type,
-            unique_service_name,
-        } => flat(2, 0, notification_type, unique_service_name, none),
-        Message::Search {
-            search_target,
-            maximum_wait_sec,
-        } => flat(3, maximum_wait_sec, search_target, none, none),
-        Message::Response {
-            search_target,
-            unique_service_name,
-            location,
-        } => flat(4, 0, search_target, unique_service_name, location),
+impl From<Message> for ParsedNumbers {
+    ghost from_gives = { λ m n. n ≡ message_numbers m };
+
+    fn from(m: Message) -> ParsedNumbers {
+        match m {
+            Message::NotifyAlive {
+                notification_type,
+                unique_service_name,
+                location,
+            } => flat(1, 0, notification_type, unique_service_name, location),
+            Message::NotifyByeBye {
+                notification_type,
+                unique_service_name,
+            } => flat(2, 0, notification_type, unique_service_name, NOWHERE),
+            Message::Search {
+                search_target,
+                maximum_wait_sec,
+            } => flat(3, maximum_wait_sec, search_target, NOWHERE, NOWHERE),
+            Message::Response {
+                search_target,
+                unique_service_name,
+                location,
+            } => flat(4, 0, search_target, unique_service_name, location),
+        }
     }
 }
 
-fn numbers_of(answer: Parsed) -> ParsedNumbers
-    ensures { result ≡ numbers_of (answer_of answer) }
-{
-    let none = Place { start: 0, len: 0 };
-    let Parsed::Message(m) = answer else {
-        return flat(message::refusal_of(answer), 0, none, none, none);
-    };
-    message_numbers(m)
+impl From<Result<Message, ParseError>> for ParsedNumbers {
+    ghost from_gives = { λ answer n. n ≡ numbers_of (answer_of answer) };
+
+    fn from(answer: Result<Message, ParseError>) -> ParsedNumbers {
+        match answer {
+            Ok(m) => ParsedNumbers::from(m),
+            Err(e) => flat(e.number(), 0, NOWHERE, NOWHERE, NOWHERE),
+        }
+    }
+}
+
+impl From<Result<usize, BuildError>> for Written {
+    ghost from_gives = { λ answer w. built_of w ≡ built answer };
+
+    fn from(answer: Result<usize, BuildError>) -> Written {
+        match answer {
+            Ok(len) => Written { refusal: 0, len },
+            Err(e) => Written {
+                refusal: e.number(),
+                len: 0,
+            },
+        }
+    }
 }
 
 #[unsafe(no_mangle)]
 pub extern "C" fn message_c_parse(datagram: &[u8]) -> ParsedNumbers
     ensures { result ≡ numbers_of (parsed datagram.now) }
 {
-    numbers_of(message::parse(datagram))
+    ParsedNumbers::from(message::parse(datagram))
 }
 
 #[unsafe(no_mangle)]
 pub extern "C" fn message_c_search(buf: &mut [u8], st: &[u8]) -> Written
     ensures { Builds (search_texts st.now) (search_text st.now) buf.old buf.new (built_of result) }
 {
-    let b = message::build_search(buf, st);
-    Written {
-        refusal: b.refusal,
-        len: b.len,
-    }
+    Written::from(message::build_search(buf, st))
 }
 
 #[unsafe(no_mangle)]
@@ -112,11 +128,7 @@ pub extern "C" fn message_c_response(
         (response_text st.now usn.now location.now)
         buf.old buf.new (built_of result) }
 {
-    let b = message::build_response(buf, st, usn, location);
-    Written {
-        refusal: b.refusal,
-        len: b.len,
-    }
+    Written::from(message::build_response(buf, st, usn, location))
 }
 
 #[unsafe(no_mangle)]
@@ -130,11 +142,7 @@ pub extern "C" fn message_c_notify(
         (notify_text nt.now usn.now location.now)
         buf.old buf.new (built_of result) }
 {
-    let b = message::build_notify(buf, nt, usn, location);
-    Written {
-        refusal: b.refusal,
-        len: b.len,
-    }
+    Written::from(message::build_notify(buf, nt, usn, location))
 }
 
 #[unsafe(no_mangle)]
@@ -143,9 +151,5 @@ pub extern "C" fn message_c_byebye(buf: &mut [u8], nt: &[u8], usn: &[u8]) -> Wri
         (byebye_text nt.now usn.now)
         buf.old buf.new (built_of result) }
 {
-    let b = message::build_byebye(buf, nt, usn);
-    Written {
-        refusal: b.refusal,
-        len: b.len,
-    }
+    Written::from(message::build_byebye(buf, nt, usn))
 }

@@ -1,14 +1,14 @@
 -- Laws of steps one after the other.
 use mathlib.Core.Path.{◌≡◌, refl, sym, ◌∙◌, ap, subst}
-use mathlib.Core.Bool.{true, false}
-use mathlib.Core.List.{List, [], ◌∷◌, ◌++◌, append_assoc}
-use Prim.Native.Nat.{ℕ, zero, suc, ◌+◌, ◌≤◌, ◌<◌}
+use Rattle.std.proofs.Common.{None}
+use mathlib.Core.List.{List, [], ◌++◌, append_assoc}
+use Prim.Native.Nat.{ℕ, ◌+◌, ◌≤◌}
 use native.Mathlib.Omega.{arith}
-use lib.ListN.{length, take, drop, length-drop, drop_of_length-le}
+use lib.ListN.{length, take, drop}
 use Rattle.console.specs.Input.{line_max, Pending}
 use Rattle.engine.specs.Arrays.{Engine}
 use Rattle.console.specs.Command.{outbox_max}
-use Rattle.program.specs.Steps.{piece_max, to_print, pieces, Ready, Takes, PrintsPiece, Hands, Reads}
+use Rattle.program.specs.Steps.{piece_max, to_print, Ready, Takes, PrintsPiece, Hands, Reads}
 use Rattle.program.specs.declared.state.State.{State}
 use Rattle.program.proofs.Taking.{nothing-held}
 
@@ -31,26 +31,6 @@ took {text = text} t = record { text = text; prints = t.prints }
 pub printed-piece : {s s' : State} {o text : List ℕ} → PrintsPiece s o s' text → (e : Engine) (l rest : List ℕ) → Hands s e l o rest s' e l o rest
 printed-piece {text = text} t e l rest = record { text = text; prints = λ later. t.prints e l (rest ++ later) }
 
--- a chunk is used up, part by part
-empty : (n : ℕ) → drop {A = ℕ} n [] ≡ []
-empty n = drop_of_length-le [] {i = n} (omega arith)
-
-drop-drop : (n m : ℕ) (s : List ℕ) → drop m (drop n s) ≡ drop (n + m) s
-drop-drop zero m s = let k : zero + m ≡ m = omega arith in sym (ap (λ (j : ℕ). drop j s) k)
-drop-drop (suc n) m [] = empty m ∙ sym (empty (suc n + m))
-drop-drop (suc n) m (x ∷ s) = let k : suc n + m ≡ suc (n + m) = omega arith in drop-drop n m s ∙ sym (ap (λ (j : ℕ). drop j (x ∷ s)) k)
-
-pub further : {s s' : State} {e e' : Engine} {l l' o o' x part : List ℕ} (chunk : List ℕ) (at used : ℕ) → part ≡ drop at chunk
-    → Hands s e l o x s' e' l' o' (drop used part) → Hands s e l o x s' e' l' o' (drop (at + used) chunk)
-further {s} {s'} {e} {e'} {l} {l'} {o} {o'} {x} chunk at used p h =
-    subst (λ (r : List ℕ). Hands s e l o x s' e' l' o' r) (ap (drop used) p ∙ drop-drop at used chunk) h
-
-pub from-part : {s s' : State} {e e' : Engine} {l l' o o' r part chunk : List ℕ} → part ≡ chunk → Hands s e l o part s' e' l' o' r → Hands s e l o chunk s' e' l' o' r
-from-part {s} {s'} {e} {e'} {l} {l'} {o} {o'} {r} p h = subst (λ (x : List ℕ). Hands s e l o x s' e' l' o' r) p h
-
-pub used_up : {s s' : State} {e e' : Engine} {l l' o o' x : List ℕ} (chunk : List ℕ) (at : ℕ) → length chunk ≤ at → Hands s e l o x s' e' l' o' (drop at chunk) → Hands s e l o x s' e' l' o' []
-used_up {s} {s'} {e} {e'} {l} {l'} {o} {o'} {x} chunk at h p = subst (λ (r : List ℕ). Hands s e l o x s' e' l' o' r) (drop_of_length-le chunk {i = at} h) p
-
 -- chunk after chunk
 pub reads_none : (s : State) (e : Engine) (line outbox : List ℕ) → Reads s e line outbox s e line outbox
 reads_none s e line outbox = record { input = []; hands = none s e line outbox [] }
@@ -66,7 +46,7 @@ reads-chunk {s} {s'} {s''} {e} {e'} {e''} {l} {l'} {l''} {o} {o'} {o''} {chunk} 
     record { input = r.input ++ chunk; hands = whole ⨟ h }
 
 -- ---- what the next step asks
-pub ready_printed : (s : State) {s' : State} (l' o : List ℕ) {o' : List ℕ} (out : List ℕ) {out' : List ℕ} → Pending (take s.held l') l' s.held → s'.held ≡ s.held → s'.printing ≡ false → length o ≡ outbox_max → length o' ≡ length o
+pub ready_printed : (s : State) {s' : State} (l' o : List ℕ) {o' : List ℕ} (out : List ℕ) {out' : List ℕ} → Pending (take s.held l') l' s.held → s'.held ≡ s.held → s'.printing ≡ None → length o ≡ outbox_max → length o' ≡ length o
     → piece_max ≤ length out → length out' ≡ length out → Ready s' l' o' out'
 ready_printed s {s'} l' o out p h t e q n r = record {
   under = subst (λ (k : ℕ). Pending (take k l') l' k) (sym h) p;
@@ -75,16 +55,5 @@ ready_printed s {s'} l' o out p h t e q n r = record {
   room = omega (arith, n, r);
 }
 
-pub ready_first : (s : State) (line outbox out : List ℕ) → s.held ≡ 0 → s.printing ≡ false → line_max + 2 ≤ length line → length outbox ≡ outbox_max → piece_max ≤ length out → Ready s line outbox out
+pub ready_first : (s : State) (line outbox out : List ℕ) → s.held ≡ 0 → s.printing ≡ None → line_max + 2 ≤ length line → length outbox ≡ outbox_max → piece_max ≤ length out → Ready s line outbox out
 ready_first s line outbox out h t l o n = record { under = nothing-held line l h; printed = t; lent = o; room = n }
-
--- pieces are due until none is
-pub no_pieces : (s : State) → s.printing ≡ true → 0 < pieces s
-no_pieces s t = rw t (omega arith)
-
--- a part of a chunk that was taken in
-pub used_most : {part : List ℕ} (chunk : List ℕ) (at : ℕ) {used : ℕ} → part ≡ drop at chunk → at ≤ length chunk → used ≤ length part → at + used ≤ length chunk
-used_most chunk at p h u = omega (arith, ap length p, length-drop at chunk)
-
-pub used_some : {part : List ℕ} (chunk : List ℕ) (at : ℕ) {used : ℕ} → part ≡ drop at chunk → at < length chunk → (0 < length part → 0 < used) → 0 < used
-used_some chunk at p h u = u (omega (arith, ap length p, length-drop at chunk))

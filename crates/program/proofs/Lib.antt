@@ -1,5 +1,4 @@
 -- The laws of the program, one file a subject.
-pub mod Fitting
 pub mod Handing
 pub mod Lines
 pub mod Replying

@@ -22,7 +22,6 @@ data Broken : List ℕ → Type 0 where
   broken : (a b : List ℕ) → all not_end a ≡ true → Broken (a ++ 10 ∷ b)
 
 breaks : (l : List ℕ) → Broken l
-unfolding all
 breaks [] = whole {l = []} refl
 breaks (x ∷ l) = go (eqb x 10) refl (breaks l)
   where
@@ -35,7 +34,6 @@ breaks (x ∷ l) = go (eqb x 10) refl (breaks l)
     go false e r = next e r
 
 all_take : (f : ℕ → Bool) (n : ℕ) (s : List ℕ) → all f s ≡ true → all f (take n s) ≡ true
-unfolding all
 all_take f zero s e = refl
 all_take f (suc n) [] e = refl
 all_take f (suc n) (a ∷ s) e = let p = (and-eq-true_iff (f a) (all f s)).0 e in rw p.0 (all_take f n s p.1)
@@ -45,7 +43,6 @@ no_end-front n s e = all_take not_end n s e
 
 -- a text without byte 10 is bare
 last_byte : (a : ℕ) (s : List ℕ) → all not_end (a ∷ s) ≡ true → eqb (get_or (a ∷ s) (length s) 0) 10 ≡ false
-unfolding all
 last_byte a [] e = not-true (eqb a 10) ((and-eq-true_iff (not_end a) true).0 e).0
 last_byte a (b ∷ s) e = last_byte b s ((and-eq-true_iff (not_end a) (all not_end (b ∷ s))).0 e).1
 

@@ -1,10 +1,11 @@
 -- Laws of printing an answer piece by piece.
-use mathlib.Core.Path.{◌≡◌, refl, sym, ◌∙◌, ap, subst}
+use mathlib.Core.Path.{◌≡◌, refl, sym, ◌∙◌, ap}
 use mathlib.Core.Bool.{Bool, true, false, cond}
 use mathlib.Core.List.{List, [], ◌++◌, append_assoc, append-nil}
 use Prim.Native.Nat.{ℕ, suc, ◌+◌, ◌-◌, ◌*◌, ◌/◌, ◌≤◌, ◌<◌}
 use native.Mathlib.Omega.{arith}
 use native.Mathlib.Numerals.{add-one}
+use Rattle.std.proofs.Common.{Option, Some, None}
 use lib.Dec.{ltb}
 use lib.ListN.{length, take, drop, length-take}
 use Rattle.text.specs.Bytes.{bytes}
@@ -16,8 +17,9 @@ use Rattle.engine.specs.Arrays.{Engine}
 use Rattle.dialogue.specs.Printing.{record_line}
 use Rattle.dialogue.specs.Outbox.{record_at, clean}
 use Rattle.program.specs.Program.{record_lines, stain, printed}
-use Rattle.program.specs.Steps.{piece_max, due, session_in, to_print, PrintsPiece}
+use Rattle.program.specs.Steps.{piece_max, due_of, session_in, to_print, PrintsPiece}
 use Rattle.program.specs.declared.state.State.{State}
+use Rattle.program.specs.declared.state.Printing.{Printing}
 
 -- a text that was appended to nothing, with room for it
 pub written-whole : {u b b' : List ℕ} {r : ℕ} → Appends u b 0 b' r → length u ≤ length b → take r b' ≡ u
@@ -43,19 +45,6 @@ pub stain-some : {b : Bool} (n : ℕ) (outbox : List ℕ) → b ≡ clean n outb
 unfolding stain
 stain-some n outbox p q = rw (sym p ∙ q)
 
--- the state with the next piece printed
-abbrev pub printed_to : State → Bool → ℕ → State
-printed_to s printing next = record {
-  traced = s.traced;
-  begun = s.begun;
-  lent = s.lent;
-  held = s.held;
-  printing = printing;
-  room = s.room;
-  next = next;
-  records = s.records;
-}
-
 lines_more : (n k : ℕ) (outbox : List ℕ) → k < n → record_lines (n - k) k outbox ≡ record_line (record_at k outbox) ++ record_lines (n - (k + 1)) (k + 1) outbox
 unfolding record_lines
 lines_more n k outbox h =
@@ -66,35 +55,33 @@ lines_none : (n k : ℕ) (outbox : List ℕ) → n ≤ k → record_lines (n - k
 unfolding record_lines
 lines_none n k outbox h = let m : n - k ≡ 0 = omega arith in ap (λ (x : ℕ). record_lines x k outbox) m
 
-due-record : (s : State) (outbox : List ℕ) → s.printing ≡ true → s.next < s.records → due s outbox ≡ record_line (record_at s.next (take s.room outbox)) ++ due (printed_to s true (s.next + 1)) outbox
-unfolding due
-due-record s outbox t h =
-    let o = take s.room outbox in
-    rw t
-    (ap (λ (l : List ℕ). l ++ stain s.records o) (lines_more s.records s.next o h)
-    ∙ append_assoc (record_line (record_at s.next o)) (record_lines (s.records - (s.next + 1)) (s.next + 1) o) (stain s.records o))
+due-record : (p : Printing) (outbox : List ℕ) → p.next < p.records → due_of (Some p) outbox ≡ record_line (record_at p.next (take p.room outbox)) ++ due_of (Some (record p { next = p.next + 1 })) outbox
+unfolding due_of
+due-record p outbox h =
+    let o = take p.room outbox in
+    ap (λ (l : List ℕ). l ++ stain p.records o) (lines_more p.records p.next o h)
+    ∙ append_assoc (record_line (record_at p.next o)) (record_lines (p.records - (p.next + 1)) (p.next + 1) o) (stain p.records o)
 
-due-last : (s : State) (outbox : List ℕ) → s.printing ≡ true → s.records ≤ s.next → due s outbox ≡ stain s.records (take s.room outbox) ++ due (printed_to s false s.next) outbox
-unfolding due
-due-last s outbox t h =
-    let o = take s.room outbox in
-    rw t (ap (λ (l : List ℕ). l ++ stain s.records o) (lines_none s.records s.next o h) ∙ sym (append-nil (stain s.records o)))
+due-last : (p : Printing) (outbox : List ℕ) → p.records ≤ p.next → due_of (Some p) outbox ≡ stain p.records (take p.room outbox) ++ due_of None outbox
+unfolding due_of
+due-last p outbox h =
+    let o = take p.room outbox in
+    ap (λ (l : List ℕ). l ++ stain p.records o) (lines_none p.records p.next o h) ∙ sym (append-nil (stain p.records o))
 
-prints : (s : State) (outbox : List ℕ) (t : Bool) (n : ℕ) {text piece : List ℕ} → due s outbox ≡ piece ++ due (printed_to s t n) outbox → text ≡ piece
-    → (e : Engine) (line later : List ℕ) → to_print s e line outbox later ≡ text ++ to_print (printed_to s t n) e line outbox later
+-- a piece of what is due, and the rest of it
+prints : (s : State) (outbox : List ℕ) {p : Printing} (p' : Option Printing) {text piece : List ℕ} → s.printing ≡ Some p → due_of (Some p) outbox ≡ piece ++ due_of p' outbox → text ≡ piece
+    → (e : Engine) (line later : List ℕ) → to_print s e line outbox later ≡ text ++ to_print (record s { printing = p' }) e line outbox later
 unfolding to_print
-prints s outbox t n {text} {piece} d p e line later =
+prints s outbox p' {text} {piece} t d q e line later =
     let rest = printed s.traced (session_in s e) (input (take s.held line ++ later)) in
-    ap (λ (l : List ℕ). l ++ rest) (d ∙ ap (λ (l : List ℕ). l ++ due (printed_to s t n) outbox) (sym p)) ∙ append_assoc text (due (printed_to s t n) outbox) rest
+    ap (λ (l : List ℕ). l ++ rest) (ap (λ (x : Option Printing). due_of x outbox) t ∙ d ∙ ap (λ (l : List ℕ). l ++ due_of p' outbox) (sym q)) ∙ append_assoc text (due_of p' outbox) rest
 
-pub prints-record : (s : State) (outbox : List ℕ) {s' : State} {text : List ℕ} → s.printing ≡ true → s.next < s.records → s' ≡ printed_to s true (s.next + 1)
-    → text ≡ record_line (record_at s.next (take s.room outbox)) → PrintsPiece s outbox s' text
-prints-record s outbox {s'} {text} t h p q =
-    subst (λ (x : State). PrintsPiece s outbox x text) (sym p)
-    (record { held = refl; fewer = rw t (omega arith); prints = prints s outbox true (s.next + 1) (due-record s outbox t h) q })
+pub prints-record : (s : State) (outbox : List ℕ) {p : Printing} {text : List ℕ} → s.printing ≡ Some p → p.next < p.records
+    → text ≡ record_line (record_at p.next (take p.room outbox)) → PrintsPiece s outbox (record s { printing = Some (record p { next = p.next + 1 }) }) text
+prints-record s outbox {p} t h q =
+    let rest = Some (record p { next = p.next + 1 }) in
+    record { held = refl; fewer = rw t (omega arith); prints = prints s outbox rest t (due-record p outbox h) q }
 
-pub prints-last : (s : State) (outbox : List ℕ) {s' : State} {text : List ℕ} → s.printing ≡ true → s.records ≤ s.next → s' ≡ printed_to s false s.next
-    → text ≡ stain s.records (take s.room outbox) → PrintsPiece s outbox s' text
-prints-last s outbox {s'} {text} t h p q =
-    subst (λ (x : State). PrintsPiece s outbox x text) (sym p)
-    (record { held = refl; fewer = rw t (omega arith); prints = prints s outbox false s.next (due-last s outbox t h) q })
+pub prints-last : (s : State) (outbox : List ℕ) {p : Printing} {text : List ℕ} → s.printing ≡ Some p → p.records ≤ p.next
+    → text ≡ stain p.records (take p.room outbox) → PrintsPiece s outbox (record s { printing = None }) text
+prints-last s outbox {p} t h q = record { held = refl; fewer = rw t (omega arith); prints = prints s outbox None t (due-last p outbox h) q }

@@ -5,6 +5,7 @@ use mathlib.Core.List.{List, [], ◌∷◌, ◌++◌, append_assoc, append-nil}
 use Prim.Native.Nat.{ℕ, zero, suc, ◌+◌, min, ◌≤◌, ◌<◌}
 use native.Mathlib.Omega.{arith}
 use borrow.Author.Tests.{leb-true, ltb-true, ltb-false}
+use Rattle.std.proofs.Common.{None}
 use lib.Dec.{leb, ltb}
 use lib.ListN.{length, take, drop, length-take, drop_of_length-le}
 use lib.Seq.{take_all}
@@ -18,13 +19,12 @@ use Rattle.console.specs.declared.input.Event.TheVariants.{More, Line, TooLong}
 use Rattle.console.proofs.Gathering.{all_append, unended, up-to-none}
 use Rattle.engine.specs.Arrays.{Engine}
 use Rattle.program.specs.Program.{reply, printed}
-use Rattle.program.specs.Steps.{due, session_in, to_print, Gives, holding, used_by, Replies, Takes, Finishes}
+use Rattle.program.specs.Steps.{due_of, due, session_in, to_print, Gives, holding, used_by, Replies, Takes, Finishes}
 use Rattle.program.specs.declared.state.State.{State}
 use Rattle.program.proofs.Lines.{no_end-front, heard-text, heard-none, input_last, line-ended, line-cut, line-text}
 
 -- nothing of a line
 none : all not_end [] ≡ true
-unfolding all
 none = refl
 
 pub nothing-held : (line : List ℕ) {n : ℕ} → line_max + 2 ≤ length line → n ≡ 0 → Pending (take n line) line n
@@ -35,12 +35,12 @@ nothing-held line room p =
     take_none zero = refl
     take_none (suc k) = refl
 
-no_due : (s : State) (outbox : List ℕ) → s.printing ≡ false → due s outbox ≡ []
-unfolding due
-no_due s outbox t = rw t
+no_due : (s : State) (outbox : List ℕ) → s.printing ≡ None → due s outbox ≡ []
+unfolding due_of
+no_due s outbox t = rw t refl
 
 -- a line that has ended was answered
-answered : (s : State) (e : Engine) {e' : Engine} (line outbox all line' rest : List ℕ) {outbox' text : List ℕ} {s' : State} (h : Heard) → s.printing ≡ false
+answered : (s : State) (e : Engine) {e' : Engine} (line outbox all line' rest : List ℕ) {outbox' text : List ℕ} {s' : State} (h : Heard) → s.printing ≡ None
     → Gives (reply s.traced (session_in s e) h) s.traced e' outbox' text s'
     → input (take s.held line ++ all) ≡ h ∷ input rest
     → to_print s e line outbox all ≡ text ++ to_print s' e' line' outbox' rest
@@ -75,7 +75,7 @@ replies-heard t line outbox {len} used s e {e'} {outbox'} {text} {s'} f room r =
 went_on : (s : State) (m : ℕ) (line line' whole rest : List ℕ) {e e' : Engine} {outbox outbox' text : List ℕ} {s' : State} → s' ≡ holding s m → e' ≡ e → outbox' ≡ outbox → text ≡ []
     → input (take s.held line ++ whole) ≡ input (take m line' ++ rest)
     → to_print s e line outbox whole ≡ text ++ to_print s' e' line' outbox' rest
-unfolding to_print due
+unfolding to_print due_of
 went_on s m line line' whole rest {e} {e'} {outbox} {outbox'} {text} {s'} p q o t i =
     ap (λ (ls : List Heard). due s outbox ++ printed s.traced (session_in s e) ls) i
     ∙ ap (λ (x : State). to_print x e line' outbox rest) (sym p)
@@ -103,7 +103,7 @@ used_ended n used all = go (leb n line_max)
     go false = refl
 
 module _ (s : State) {e e' : Engine} {line line' outbox outbox' chunk text : List ℕ} {used : ℕ} {s' : State} {event : Event}
-    (under : Pending (take s.held line) line s.held) (printed : s.printing ≡ false) (g : Gathers line s.held chunk line' event)
+    (under : Pending (take s.held line) line s.held) (printed : s.printing ≡ None) (g : Gathers line s.held chunk line' event)
     (r : Replies event s e line' outbox e' outbox' text s') (u : used ≡ used_by event (length chunk)) where
   -- the line ends in this chunk
   takes-end : event ≡ ended (length (bare (take s.held line ++ up_to chunk))) (suc (index_of 10 chunk)) → index_of 10 chunk < length chunk
@@ -149,7 +149,7 @@ module _ (s : State) {e e' : Engine} {line line' outbox outbox' chunk text : Lis
       }
 
 pub takes : (s : State) {e e' : Engine} {line line' outbox outbox' chunk text : List ℕ} {used : ℕ} {s' : State} {event : Event}
-    → Pending (take s.held line) line s.held → s.printing ≡ false → Gathers line s.held chunk line' event
+    → Pending (take s.held line) line s.held → s.printing ≡ None → Gathers line s.held chunk line' event
     → Replies event s e line' outbox e' outbox' text s' → used ≡ used_by event (length chunk) → Takes s e line outbox chunk s' e' line' outbox' used text
 unfolding gathered
 takes s {e} {e'} {line} {line'} {outbox} {outbox'} {chunk} {text} {used} {s'} {event} under printed g r u =
@@ -170,7 +170,7 @@ empty = refl
 
 -- the input ends: what is under way is its last line, if there is anything
 pub finishes : (s : State) {e e' : Engine} {line outbox outbox' text : List ℕ} {s' : State} {event : Event}
-    → Pending (take s.held line) line s.held → s.printing ≡ false → event ≡ finished (take s.held line)
+    → Pending (take s.held line) line s.held → s.printing ≡ None → event ≡ finished (take s.held line)
     → Replies event s e line outbox e' outbox' text s' → Finishes s e line outbox s' e' outbox' text
 unfolding finished
 finishes s {e} {e'} {line} {outbox} {outbox'} {text} {s'} {event} under printed f r = go (take s.held line) refl f
@@ -192,16 +192,8 @@ finishes s {e} {e'} {line} {outbox} {outbox'} {text} {s'} {event} under printed 
               (ap input (append-nil (take s.held line) ∙ p) ∙ input_last b w (ap (all not_end) (sym p) ∙ under.unended) ∙ ap (λ (ls : List Heard). heard (bare (b ∷ w)) ∷ ls) (sym empty));
         }
 
--- ---- event by event
+-- ---- a line that is too long
 module _ (s : State) (e : Engine) (line outbox : List ℕ) {event : Event} where
-  pub replies-more : {n : ℕ} {s' : State} → event ≡ More n → s' ≡ holding s n → Replies event s e line outbox e outbox [] s'
-  replies-more {n} {s'} p q = subst (λ (x : Event). Replies x s e line outbox e outbox [] s') (sym p) (q, refl, refl, refl)
-
-  pub replies-line : {len used : ℕ} {front : List ℕ} {e' : Engine} {outbox' text : List ℕ} {s' : State} → event ≡ Line len used → front ≡ take len line
-      → Gives (reply s.traced (session_in s e) (Text front)) s.traced e' outbox' text s' → Replies event s e line outbox e' outbox' text s'
-  replies-line {len} {used} {front} {e'} {outbox'} {text} {s'} p q g =
-      subst (λ (x : Event). Replies x s e line outbox e' outbox' text s') (sym p) (subst (λ (l : List ℕ). Gives (reply s.traced (session_in s e) (Text l)) s.traced e' outbox' text s') q g)
-
   pub replies-too_long : {used : ℕ} {e' : Engine} {outbox' text : List ℕ} {s' : State} → event ≡ TooLong used
       → Gives (reply s.traced (session_in s e) Unheard) s.traced e' outbox' text s' → Replies event s e line outbox e' outbox' text s'
   replies-too_long {used} {e'} {outbox'} {text} {s'} p g = subst (λ (x : Event). Replies x s e line outbox e' outbox' text s') (sym p) g

@@ -1,6 +1,6 @@
 -- The whole program (document 01, 'The session program'): what is printed for an input. `trace` knows further lines, and prints behind each answer
 -- whom the call told and what it sent.
-use Rattle.std.specs.Prelude.{ℕ, zero, suc, min, Bool, true, false, cond, List, [], ◌∷◌, ◌++◌, eqb, replicate}
+use Rattle.std.specs.Prelude.{ℕ, zero, suc, min, Bool, true, false, cond, Option, List, [], ◌∷◌, ◌++◌, eqb, replicate}
 use Rattle.text.specs.Bytes.{bytes}
 use Rattle.console.specs.Input.{Heard, Text, Unheard, input}
 use Rattle.console.specs.Command.{outbox_max, session_words, trace_words, command}
@@ -68,7 +68,7 @@ gives traced (Running h n) (Lend m) = record { text = bytes "ok\n"; after = Runn
 gives traced (Running h n) (Of c) = calls traced n (step h c)
 
 -- a line's command, by the words that the program knows
-abbrev pub command_of : Bool → List ℕ → Command
+abbrev pub command_of : Bool → List ℕ → Option Command
 command_of traced l = cond traced (command trace_words l) (command session_words l)
 
 -- a line, if it is not over 4,096 bytes

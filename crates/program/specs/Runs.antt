@@ -1,5 +1,5 @@
 -- A run of the program: chunks of the input are taken in part by part, what is due is printed before the next part, and then the input ends.
-use Rattle.std.specs.Prelude.{◌≡◌, false, List, [], ◌∷◌, ◌++◌, ℕ, drop}
+use Rattle.std.specs.Prelude.{◌≡◌, None, List, [], ◌∷◌, ◌++◌, ℕ, drop}
 use Rattle.engine.specs.Arrays.{Engine}
 use Rattle.program.specs.Steps.{to_print, Takes, Finishes, PrintsPiece}
 use Rattle.program.specs.declared.state.State.{State}
@@ -19,7 +19,7 @@ remains m later = to_print m.state m.engine m.line m.outbox later
 
 -- what is due is printed, piece by piece: from one moment to another, with the text that is written
 pub data PrintsDue : Moment → Moment → List ℕ → Type 0 where
-  none-due : {m : Moment} → m.state.printing ≡ false → PrintsDue m m []
+  none-due : {m : Moment} → m.state.printing ≡ None → PrintsDue m m []
   piece : {s s' : State} {e : Engine} {line outbox text more : List ℕ} {m : Moment} → PrintsPiece s outbox s' text → PrintsDue (at s' e line outbox) m more
       → PrintsDue (at s e line outbox) m (text ++ more)
 

@@ -1,6 +1,8 @@
 -- The program in steps: what is still to be printed in a state, for whatever input comes later, and what each function of the program does to that. How
 -- the input is cut into chunks is nowhere in it but as `chunk ++ later`.
-use Rattle.std.specs.Prelude.{ℕ, suc, ◌-◌, ◌≤◌, ◌<◌, ◌≡◌, Bool, true, false, cond, ◌&&◌, List, [], ◌++◌, length, take, drop, replicate}
+use Rattle.std.specs.Prelude.{ℕ, suc, ◌-◌, ◌≤◌, ◌<◌, ◌≡◌, Bool, true, false, cond, Option, Some, None, option_map, List, [], ◌++◌, length, take, drop, replicate}
+use Rattle.std.specs.Bool.{then_some}
+use Rattle.std.specs.Option.{unwrap_or}
 use Rattle.text.specs.Bytes.{bytes}
 use Rattle.console.specs.Input.{Text, Unheard, input, Pending}
 use Rattle.console.specs.declared.input.Event.{Event}
@@ -10,26 +12,34 @@ use Rattle.engine.specs.Arrays.{Engine, held}
 use Rattle.dialogue.specs.Asking.{Asked, Nothing, Begin, Lend, Of}
 use Rattle.dialogue.specs.Printing.{answer_line, news_line}
 use Rattle.dialogue.specs.Outbox.{mark}
+use Rattle.engine.specs.declared.answer.Answer.{Answer}
 use Rattle.dialogue.specs.declared.session.Reply.{Reply}
 use Rattle.program.specs.Program.{Session, Before, Running, Given, first_lent, record_lines, stain, reply, printed}
 use Rattle.program.specs.declared.state.State.{State}
+use Rattle.program.specs.declared.state.Printing.{Printing}
 
 -- the room that one piece of output is given, which no piece fills
 abbrev pub piece_max : ℕ
 piece_max = 4096
 
-abbrev pub session_of : Bool → ℕ → Engine → Session
-session_of begun lent e = cond begun (Running (held e) lent) Before
+abbrev pub session_of : Option ℕ → Engine → Session
+session_of None e = Before
+session_of (Some lent) e = Running (held e) lent
 
 abbrev pub session_in : State → Engine → Session
-session_in s e = session_of s.begun s.lent e
+session_in s e = session_of s.lent e
+
+-- how many bytes are lent to a call: none before an engine has begun
+abbrev pub room_in : State → ℕ
+room_in s = unwrap_or s.lent 0
 
 -- what is still to be printed of the last answer: the records from `next` on
-unfoldable pub due : State → List ℕ → List ℕ
-due s outbox =
-    cond s.printing
-    (record_lines (s.records - s.next) s.next (take s.room outbox) ++ stain s.records (take s.room outbox))
-    []
+unfoldable pub due_of : Option Printing → List ℕ → List ℕ
+due_of None outbox = []
+due_of (Some p) outbox = record_lines (p.records - p.next) p.next (take p.room outbox) ++ stain p.records (take p.room outbox)
+
+abbrev pub due : State → List ℕ → List ℕ
+due s outbox = due_of s.printing outbox
 
 -- what is to be printed from a state on, `later` being the rest of the input
 unfoldable pub to_print : State → Engine → List ℕ → List ℕ → List ℕ → List ℕ
@@ -43,19 +53,20 @@ pub record Gives (g : Given) (t : Bool) (e' : Engine) (outbox' said : List ℕ) 
   pub text : said ++ due s' outbox' ≡ g.text
 
 -- what is printed at once of a reply, and the state after it
-unfoldable pub reply_text : Bool → Reply → List ℕ
-reply_text traced r = cond r.heard (answer_line r.answer ++ cond traced (news_line r.answer) []) (bytes "?\n")
+unfoldable pub reply_text : Bool → Option Answer → List ℕ
+reply_text traced None = bytes "?\n"
+reply_text traced (Some a) = answer_line a ++ cond traced (news_line a) []
+
+-- `trace` prints the records of an answer besides
+abbrev pub printing_of : Bool → ℕ → Option Answer → Option Printing
+printing_of traced room a = cond traced (option_map (λ x. record { room = room; next = 0; records = x.records }) a) None
 
 abbrev pub replied : State → Reply → State
 replied s r = record {
   traced = s.traced;
-  begun = r.begun;
-  lent = cond s.begun s.lent first_lent;
+  lent = then_some r.begun (unwrap_or s.lent first_lent);
   held = 0;
-  printing = r.heard && s.traced;
-  room = cond s.begun s.lent 0;
-  next = 0;
-  records = r.answer.records;
+  printing = printing_of s.traced (room_in s) r.answer;
 }
 
 -- what is lent, marked if the program is `trace`
@@ -72,22 +83,13 @@ lends (Of c) = false
 -- a line under way, nothing due, and room for what may come
 pub record Ready (s : State) (line outbox out : List ℕ) : Type 0 where
   pub under : Pending (take s.held line) line s.held
-  pub printed : s.printing ≡ false
+  pub printed : s.printing ≡ None
   pub lent : length outbox ≡ outbox_max
   pub room : piece_max ≤ length out
 
 -- the state before with so many bytes of a line held
 abbrev pub holding : State → ℕ → State
-holding s n = record {
-  traced = s.traced;
-  begun = s.begun;
-  lent = s.lent;
-  held = n;
-  printing = s.printing;
-  room = s.room;
-  next = s.next;
-  records = s.records;
-}
+holding s n = record s { held = n }
 
 -- how many bytes of a chunk are used up: all of them where the line goes on
 abbrev pub used_by : Event → ℕ → ℕ
@@ -114,8 +116,12 @@ pub record Finishes (s : State) (e : Engine) (line outbox : List ℕ) (s' : Stat
   pub prints : to_print s e line outbox [] ≡ text ++ to_print s' e' line outbox' []
 
 -- how many pieces are due
+abbrev pub pieces_of : Option Printing → ℕ
+pieces_of None = 0
+pieces_of (Some p) = suc (p.records - p.next)
+
 abbrev pub pieces : State → ℕ
-pieces s = cond s.printing (suc (s.records - s.next)) 0
+pieces s = pieces_of s.printing
 
 -- a piece of what is due was printed
 pub record PrintsPiece (s : State) (outbox : List ℕ) (s' : State) (text : List ℕ) : Type 0 where

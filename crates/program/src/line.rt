@@ -1,12 +1,13 @@
 // What one line gives: document 01, 'The session program'.
-ghost use Rattle.std.specs.Prelude.{◌≡◌, false, List, ℕ, min, ◌≤◌, length, take};
+ghost use Rattle.std.specs.Prelude.{◌≡◌, false, Some, is_some, List, ℕ, min, ◌≤◌, length, take};
 ghost use Rattle.console.specs.Command.{outbox_max};
-ghost use Rattle.console.specs.Input.{Text, Unheard};
-ghost use Rattle.engine.specs.Arrays.{Engine, engine};
+ghost use Rattle.console.specs.Input.{Text};
+ghost use Rattle.engine.specs.Arrays.{Engine};
+ghost use Rattle.engine.specs.Owned.{engine_in};
 ghost use Rattle.dialogue.specs.Asking.{Lend, asked};
 ghost use Rattle.dialogue.specs.Obeying.{Obeys};
-ghost use Rattle.program.specs.Program.{command_of, gives, reply, lent_in};
-ghost use Rattle.program.specs.Steps.{piece_max, session_in, Gives, reply_text, marked, lends};
+ghost use Rattle.program.specs.Program.{command_of, unread, gives, reply, lent_in};
+ghost use Rattle.program.specs.Steps.{piece_max, session_in, room_in, Gives, reply_text, marked, lends};
 
 use crate::state;
 use crate::state::State;
@@ -14,9 +15,11 @@ use console::command::Command;
 use console::{buffer, command};
 use dialogue::session::Reply;
 use dialogue::{answer, record, session};
-use engine::sizes::{Head, Links, Numbers, Searches, Texts};
+use engine::answer::Answer;
+use engine::arrays::Arrays;
 
-// What is printed at once for a line: how many bytes of the buffer, and the state after it.
+// What is printed at once for a line: how many bytes of the buffer, and the state after it. There is no heap, so the bytes are in the caller's buffer, and an
+// answer can say only how many they are.
 #[derive(Clone, Copy)]
 pub(crate) struct Said {
     pub state: State,
@@ -31,8 +34,9 @@ fn say(out: &mut [u8], text: &[u8]) -> usize
     buffer::append(out, 0, text)
 }
 
-// The command of a line, by the words that the program knows.
-fn command_of(line: &[u8], traced: bool) -> Command
+// The command of a line, by the words that the program knows. `traced` says here, in `mark` and in `say_reply` whether the program is `trace`: an enum of
+// the two programs would be asked by the same `if` in each, and the definitions speak of a flag.
+fn command_of(line: &[u8], traced: bool) -> Option<Command>
     ensures { result ≡ command_of traced line.now }
 {
     if traced {
@@ -51,124 +55,62 @@ fn mark(outbox: &mut [u8], traced: bool)
 }
 
 // The engine hears a command, with this outbox.
-fn obey_marked(
-    begun: bool,
-    head: &mut Head,
-    links: &mut Links,
-    searches: &mut Searches,
-    numbers: &mut Numbers,
-    texts: &mut Texts,
-    line: &[u8],
-    c: Command,
-    outbox: &mut [u8],
-    traced: bool,
-) -> Reply
-    ensures { Obeys begun (asked line.now (length outbox.old) c) (engine head.old links.old searches.old numbers.old texts.old) (marked traced outbox.old) outbox.new (engine head.new links.new searches.new numbers.new texts.new) result }
+fn obey_marked(s: State, arrays: &mut Arrays, line: &[u8], c: Command, outbox: &mut [u8]) -> Reply
+    ensures { Obeys (is_some s.lent) (asked line.now (length outbox.old) (Some c)) (engine_in arrays.old) (marked s.traced outbox.old) outbox.new (engine_in arrays.new) result }
 {
-    mark(outbox, traced);
-    session::obey(
-        begun, head, links, searches, numbers, texts, line, c, outbox,
-    )
-}
-
-// The lesser of two sizes.
-fn least(a: usize, b: usize) -> usize
-    ensures { result ≡ min a b }
-{
-    if a < b { a } else { b }
+    mark(outbox, s.traced);
+    session::obey(s.lent.is_some(), arrays, line, Some(c), outbox)
 }
 
 // The same with as much of the outbox as is lent.
-fn obey_lent(
-    begun: bool,
-    head: &mut Head,
-    links: &mut Links,
-    searches: &mut Searches,
-    numbers: &mut Numbers,
-    texts: &mut Texts,
-    line: &[u8],
-    c: Command,
-    outbox: &mut [u8],
-    room: usize,
-    traced: bool,
-) -> Reply
-    ensures { Obeys begun (asked line.now (min room (length outbox.old)) c) (engine head.old links.old searches.old numbers.old texts.old) (marked traced (take room outbox.old)) (take room outbox.new) (engine head.new links.new searches.new numbers.new texts.new) result }
+fn obey_lent(s: State, arrays: &mut Arrays, line: &[u8], c: Command, outbox: &mut [u8]) -> Reply
+    ensures { Obeys (is_some s.lent) (asked line.now (min (room_in s) (length outbox.old)) (Some c)) (engine_in arrays.old) (marked s.traced (take (room_in s) outbox.old)) (take (room_in s) outbox.new) (engine_in arrays.new) result }
 {
-    let lent = least(room, outbox.len());
-    obey_marked(
-        begun,
-        head,
-        links,
-        searches,
-        numbers,
-        texts,
-        line,
-        c,
-        &mut outbox[0..lent],
-        traced,
-    )
+    let lent = state::room_of(s).min(outbox.len());
+    obey_marked(s, arrays, line, c, &mut outbox[..lent])
 }
 
 // What is printed at once of a reply: `?`, or the answer and, by `trace`, its news.
-fn say_reply(out: &mut [u8], r: Reply, traced: bool) -> usize
+fn say_reply(out: &mut [u8], reply: Option<Answer>, traced: bool) -> usize
     requires { piece_max ≤ length out.old }
-    ensures { take result out.new ≡ reply_text traced r }
+    ensures { take result out.new ≡ reply_text traced reply }
 {
-    if !r.heard {
+    let Some(answer) = reply else {
         return say(out, b"?\n");
-    }
-    let a = r.answer;
-    let len = answer::append_answer(out, 0, a);
+    };
+    let len = answer::append_answer(out, 0, answer);
     if !traced {
         return len;
     }
-    answer::append_news(out, len, a)
+    answer::append_news(out, len, answer)
 }
 
 // A call, or nothing that is heard.
 fn obey(
     s: State,
-    head: &mut Head,
-    links: &mut Links,
-    searches: &mut Searches,
-    numbers: &mut Numbers,
-    texts: &mut Texts,
+    arrays: &mut Arrays,
     line: &[u8],
     c: Command,
     outbox: &mut [u8],
     out: &mut [u8],
 ) -> Said
     requires { (length outbox.old ≡ outbox_max) × (piece_max ≤ length out.old) }
-    ensures { lends (asked line.now (lent_in (session_in s (engine head.old links.old searches.old numbers.old texts.old))) c) ≡ false → Gives (gives s.traced (session_in s (engine head.old links.old searches.old numbers.old texts.old)) (asked line.now (lent_in (session_in s (engine head.old links.old searches.old numbers.old texts.old))) c)) s.traced (engine head.new links.new searches.new numbers.new texts.new) outbox.new (take result.len out.new) result.state }
+    ensures { lends (asked line.now (lent_in (session_in s (engine_in arrays.old))) (Some c)) ≡ false → Gives (gives s.traced (session_in s (engine_in arrays.old)) (asked line.now (lent_in (session_in s (engine_in arrays.old))) (Some c))) s.traced (engine_in arrays.new) outbox.new (take result.len out.new) result.state }
 {
-    let r = obey_lent(
-        s.begun,
-        head,
-        links,
-        searches,
-        numbers,
-        texts,
-        line,
-        c,
-        outbox,
-        state::room_of(s),
-        s.traced,
-    );
-    let next = state::after_reply(s, r);
+    let r = obey_lent(s, arrays, line, c, outbox);
     Said {
-        state: next,
-        len: say_reply(out, r, s.traced),
+        state: state::after_reply(s, r),
+        len: say_reply(out, r.answer, s.traced),
     }
 }
 
 // A line that is not read: `?`.
 pub(crate) fn unheard(s: State, out: &mut [u8]) -> Said
     requires { piece_max ≤ length out.old }
-    ensures { (e : Engine) (outbox : List ℕ) → Gives (reply s.traced (session_in s e) Unheard) s.traced e outbox (take result.len out.new) result.state }
+    ensures { (e : Engine) (outbox : List ℕ) → Gives (unread (session_in s e)) s.traced e outbox (take result.len out.new) result.state }
 {
-    let next = state::with_lent(s, s.lent);
     Said {
-        state: next,
+        state: state::with_lent(s, s.lent),
         len: say(out, b"?\n"),
     }
 }
@@ -178,12 +120,11 @@ fn lend(s: State, n: usize, out: &mut [u8]) -> Said
     requires { piece_max ≤ length out.old }
     ensures { (e : Engine) (outbox : List ℕ) → Gives (gives s.traced (session_in s e) (Lend n)) s.traced e outbox (take result.len out.new) result.state }
 {
-    if !s.begun {
+    let Some(_) = s.lent else {
         return unheard(s, out);
-    }
-    let next = state::with_lent(s, n);
+    };
     Said {
-        state: next,
+        state: state::with_lent(s, Some(n)),
         len: say(out, b"ok\n"),
     }
 }
@@ -191,23 +132,19 @@ fn lend(s: State, n: usize, out: &mut [u8]) -> Said
 // One line.
 pub(crate) fn on_line(
     s: State,
-    head: &mut Head,
-    links: &mut Links,
-    searches: &mut Searches,
-    numbers: &mut Numbers,
-    texts: &mut Texts,
+    arrays: &mut Arrays,
     line: &[u8],
     outbox: &mut [u8],
     out: &mut [u8],
 ) -> Said
     requires { (length outbox.old ≡ outbox_max) × (piece_max ≤ length out.old) }
-    ensures { Gives (reply s.traced (session_in s (engine head.old links.old searches.old numbers.old texts.old)) (Text line.now)) s.traced (engine head.new links.new searches.new numbers.new texts.new) outbox.new (take result.len out.new) result.state }
+    ensures { Gives (reply s.traced (session_in s (engine_in arrays.old)) (Text line.now)) s.traced (engine_in arrays.new) outbox.new (take result.len out.new) result.state }
 {
-    let c = command_of(line, s.traced);
-    let Command::Lend(n) = c else {
-        return obey(
-            s, head, links, searches, numbers, texts, line, c, outbox, out,
-        );
+    let Some(command) = command_of(line, s.traced) else {
+        return unheard(s, out);
+    };
+    let Command::Lend(n) = command else {
+        return obey(s, arrays, line, command, outbox, out);
     };
     lend(s, n as usize, out)
 }

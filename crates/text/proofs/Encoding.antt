@@ -8,9 +8,9 @@ use native.Mathlib.Numerals.{add-one}
 use borrow.Author.Tests.{eqb-true, le-leb, lt-leb, leb-true}
 use lib.Dec.{T, eqb, leb}
 use lib.ListN.{length, take, drop, get_or, length-drop, drop_of_length-le}
-use lib.Seq.{drop-cons, drop-drop, get_or-drop, take-length}
+use lib.Seq.{drop-cons, drop-drop, take-length, take_all}
 use Rattle.text.specs.Range.{within, every}
-use Rattle.text.specs.Utf8.{lead_of, expects, rest, utf8, ascii, follows, tailed}
+use Rattle.text.specs.Utf8.{lead_of, expects, rest, utf8, ascii, follows}
 use Rattle.text.specs.declared.utf8.Lead.{Lead}
 use Rattle.text.proofs.Span.{all, span, is_true, and_left, and_right}
 
@@ -96,27 +96,28 @@ follows-more (suc k) low high (b ∷ s) h =
     ap (◌&&◌ (within low high b)) (follows-more k 0x80 0xBF s (omega arith))
     ∙ sym (and_assoc (within low high b) (follows (suc k) 0x80 0xBF s) (within 0x80 0xBF (get_or s (suc k) 0)))
 
--- the answers of `has_one`, `has_two` and `has_three`
-module _ (l : Lead) (s : List ℕ) (i : ℕ) where
-  pub tailed-short : (k : ℕ) → i < length s → length s - i < 1 + k → tailed k l s i ≡ false
-  tailed-short k g h = follows-short k l.low l.high (drop (i + 1) s) (omega (arith, length-drop (i + 1) s))
+-- the answers of `has_tail`
+module _ (l : Lead) (s : List ℕ) where
+  as_many : (k : ℕ) → l.tail ≡ k → follows k l.low l.high s ≡ follows l.tail l.low l.high s
+  as_many k e = ap (λ (n : ℕ). follows n l.low l.high s) (sym e)
 
-  pub tailed-one : i + 1 < length s → within l.low l.high (get_or s (i + 1) 0) ≡ tailed 1 l s i
-  tailed-one h =
-      let z : i + 1 + 0 ≡ i + 1 = omega arith in
-      ap (within l.low l.high) (sym (get_or-drop (i + 1) s 0 0 ∙ ap (λ (m : ℕ). get_or s m 0) z))
-      ∙ sym (follows-one l.low l.high (drop (i + 1) s) (omega (arith, length-drop (i + 1) s)))
+  pub tail-short : length s < l.tail → false ≡ follows l.tail l.low l.high s
+  tail-short h = sym (follows-short l.tail l.low l.high s h)
 
-  pub tailed_more : (k : ℕ) {r : Bool} → i + (k + 2) < length s → r ≡ tailed (suc k) l s i → (r && within 0x80 0xBF (get_or s (i + (k + 2)) 0)) ≡ tailed (suc (suc k)) l s i
-  tailed_more k {r} h e =
-      let z : i + 1 + suc k ≡ i + (k + 2) = omega arith in
-      ap (λ (t : Bool). t && within 0x80 0xBF (get_or s (i + (k + 2)) 0)) e
-      ∙ ap (λ (b : ℕ). tailed (suc k) l s i && within 0x80 0xBF b) (sym (get_or-drop (i + 1) s (suc k) 0 ∙ ap (λ (m : ℕ). get_or s m 0) z))
-      ∙ sym (follows-more k l.low l.high (drop (i + 1) s) (omega (arith, length-drop (i + 1) s)))
+  pub tail-none : l.tail ≡ 0 → true ≡ follows l.tail l.low l.high s
+  unfolding follows
+  tail-none e = as_many 0 e
 
-  -- an arm of `has_tail`
-  pub tailed-arm : (k : ℕ) {r : Bool} → l.tail ≡ k → r ≡ tailed k l s i → r ≡ tailed l.tail l s i
-  tailed-arm k e q = q ∙ ap (λ (m : ℕ). tailed m l s i) (sym e)
+  pub tail-one : l.tail ≡ 1 → 1 ≤ length s → {p : Bool} → p ≡ within l.low l.high (get_or s 0 0) → p ≡ follows l.tail l.low l.high s
+  tail-one e h q = q ∙ sym (follows-one l.low l.high s (omega arith)) ∙ as_many 1 e
+
+  pub tail-two : l.tail ≡ 2 → 2 ≤ length s → {p q : Bool} → p ≡ within l.low l.high (get_or s 0 0) → q ≡ within 0x80 0xBF (get_or s 1 0) → (p && q) ≡ follows l.tail l.low l.high s
+  tail-two e h {p} {q} a b = rw (a, b, ← follows-one l.low l.high s (omega arith)) (sym (follows-more 0 l.low l.high s (omega arith)) ∙ as_many 2 e)
+
+  pub tail-three : l.tail ≡ 3 → 3 ≤ length s → {p q r : Bool} → p ≡ within l.low l.high (get_or s 0 0) → q ≡ within 0x80 0xBF (get_or s 1 0) → r ≡ within 0x80 0xBF (get_or s 2 0)
+      → (p && q && r) ≡ follows l.tail l.low l.high s
+  tail-three e h {p} {q} {r} a b d =
+      rw (a, b, d, ← follows-one l.low l.high s (omega arith), ← follows-more 0 l.low l.high s (omega arith)) (sym (follows-more 1 l.low l.high s (omega arith)) ∙ as_many 3 e)
 
 -- r tells whether the w bytes at place i of s are the character that begins there
 pub record Character (s : List ℕ) (i w : ℕ) (r : Bool) : Type 0 where
@@ -129,16 +130,19 @@ module _ (s : List ℕ) (i : ℕ) (room : i < length s) {l : Lead} (e : l ≡ le
   after-lead = rw (add-one, drop-cons s i 0) (ap (λ (x : Lead). rest x.tail x.low x.high (drop (suc i) s)) (sym e))
 
   -- the length is what the lead byte says
-  pub character : {r : Bool} → r ≡ tailed l.tail l s i → Character s i (1 + l.tail) r
+  pub character : {r : Bool} → r ≡ follows l.tail l.low l.high (take (length s - (i + 1)) (drop (i + 1) s)) → Character s i (1 + l.tail) r
   unfolding utf8
-  character {r} q = let z : i + 1 + l.tail ≡ i + (1 + l.tail) = omega arith in record {
-    inside = λ t. omega (arith, follows-le l.tail l.low l.high (drop (i + 1) s) (sym q ∙ t), length-drop (i + 1) s);
-    decides =
-        after-lead
-        ∙ follows-rest l.tail l.low l.high (drop (i + 1) s)
-        ∙ ap (λ (m : List ℕ). tailed l.tail l s i && utf8 m) (drop-drop l.tail (i + 1) s ∙ ap (λ (m : ℕ). drop m s) z)
-        ∙ ap (λ (t : Bool). t && utf8 (drop (i + (1 + l.tail)) s)) (sym q);
-  }
+  character {r} a =
+      let q : r ≡ follows l.tail l.low l.high (drop (i + 1) s) = a ∙ ap (follows l.tail l.low l.high) (take_all (length s - (i + 1)) (drop (i + 1) s) (omega (arith, length-drop (i + 1) s))) in
+      let z : i + 1 + l.tail ≡ i + (1 + l.tail) = omega arith in
+      record {
+        inside = λ t. omega (arith, follows-le l.tail l.low l.high (drop (i + 1) s) (sym q ∙ t), length-drop (i + 1) s);
+        decides =
+            after-lead
+            ∙ follows-rest l.tail l.low l.high (drop (i + 1) s)
+            ∙ ap (λ (m : List ℕ). follows l.tail l.low l.high (drop (i + 1) s) && utf8 m) (drop-drop l.tail (i + 1) s ∙ ap (λ (m : ℕ). drop m s) z)
+            ∙ ap (λ (t : Bool). t && utf8 (drop (i + (1 + l.tail)) s)) (sym q);
+      }
 
 pub passed : {s : List ℕ} {i w : ℕ} {r : Bool} → Character s i w r → r ≡ true → utf8 (drop (i + w) s) ≡ utf8 (drop i s)
 passed {s} {i} {w} {r} k e = sym (k.decides ∙ ap (λ (t : Bool). t && utf8 (drop (i + w) s)) e)

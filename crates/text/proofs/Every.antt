@@ -2,11 +2,12 @@
 use mathlib.Core.Path.{◌≡◌, refl, sym, ◌∙◌, ap}
 use mathlib.Core.Bool.{Bool, true, false, ◌&&◌, and_assoc, and-true}
 use mathlib.Core.List.{List, [], ◌∷◌, ◌++◌}
-use Prim.Native.Nat.{ℕ, suc, ◌+◌, ◌-◌, ◌≤◌, ◌<◌}
+use Prim.Native.Nat.{ℕ, zero, suc, ◌+◌, ◌-◌, ◌*◌, ◌≤◌, ◌<◌}
 use native.Mathlib.Numerals.{add-one}
 use native.Mathlib.Omega.{arith}
 use lib.ListN.{length, take, drop, get_or, drop_of_length-le, length-drop, take-append-drop}
-use lib.Seq.{drop-cons, drop-drop, take_all}
+use lib.Seq.{drop-cons, drop-drop}
+use Rattle.std.specs.Simd.{first_chunks}
 use Rattle.text.specs.Range.{every}
 
 module _ (f : ℕ → Bool) (s : List ℕ) (i : ℕ) where
@@ -34,22 +35,33 @@ module _ (f : ℕ → Bool) where
   every-split : (s : List ℕ) (k : ℕ) → every f s ≡ (every f (take k s) && every f (drop k s))
   every-split s k = ap (every f) (sym (take-append-drop k s)) ∙ every_append f (take k s) (drop k s)
 
-  -- the block from place i to place e
-  module _ (s : List ℕ) (i e : ℕ) (h : i ≤ e) where
-    every-from : every f (drop i s) ≡ (every f (take (e - i) (drop i s)) && every f (drop e s))
-    every-from =
-        let n : i + (e - i) ≡ e = omega arith in
-        every-split (drop i s) (e - i)
-        ∙ ap (λ (l : List ℕ). every f (take (e - i) (drop i s)) && every f l) (drop-drop (e - i) i s ∙ ap (λ (j : ℕ). drop j s) n)
+  -- a block of k bytes at the front of what is left
+  module _ (s left : List ℕ) (k : ℕ) {block : List ℕ} (b : block ≡ take k left) (p : every f s ≡ every f left) where
+    pub block_passes : {behind : List ℕ} → behind ≡ drop k left → every f block ≡ true → every f s ≡ every f behind
+    block_passes {behind} d e =
+        p ∙ every-split left k ∙ ap (λ (t : Bool). t && every f (drop k left)) (ap (every f) (sym b) ∙ e) ∙ ap (every f) (sym d)
 
-    pub block_passes : every f (take (e - i) (drop i s)) ≡ true → every f s ≡ every f (drop i s) → every f s ≡ every f (drop e s)
-    block_passes b p = p ∙ every-from ∙ ap (λ (t : Bool). t && every f (drop e s)) b
+    pub block_fails : every f block ≡ false → false ≡ every f s
+    block_fails e = sym (p ∙ every-split left k ∙ ap (λ (t : Bool). t && every f (drop k left)) (ap (every f) (sym b) ∙ e))
 
-    pub block_fails : every f (take (e - i) (drop i s)) ≡ false → every f s ≡ every f (drop i s) → false ≡ every f s
-    block_fails b p = sym (p ∙ every-from ∙ ap (λ (t : Bool). t && every f (drop e s)) b)
+  -- the last block of k bytes, where fewer are left
+  pub block_last : (s left : List ℕ) (k : ℕ) {last : List ℕ} → k ≤ length s → length left < k → last ≡ drop (length s - k) s
+      → left ≡ drop (length s - length left) s → every f s ≡ every f left → every f last ≡ every f s
+  block_last s left k {last} h g e d p =
+      let w : left ≡ drop (k - length left) last =
+      d ∙ ap (λ (n : ℕ). drop n s) (omega arith) ∙ sym (drop-drop (k - length left) (length s - k) s) ∙ ap (drop (k - length left)) (sym e) in
+      sym (between (every f s) (every f last) (every f left) (every f (take (length s - k) s)) (every f (take (k - length left) last))
+      (every-split s (length s - k) ∙ ap (λ (l : List ℕ). every f (take (length s - k) s) && every f l) (sym e))
+      (every-split last (k - length left) ∙ ap (λ (l : List ℕ). every f (take (k - length left) last) && every f l) (sym w)) p)
 
-  -- the last block, from a place k before i on
-  pub block_last : (s : List ℕ) (i k : ℕ) → k ≤ i → every f s ≡ every f (drop i s) → every f (take (length s - k) (drop k s)) ≡ every f s
-  block_last s i k h p =
-      let w : take (length s - k) (drop k s) ≡ drop k s = take_all (length s - k) (drop k s) (omega (arith, length-drop k s)) in
-      ap (every f) w ∙ sym (between (every f s) (every f (drop k s)) (every f (drop i s)) (every f (take k s)) (every f (take (i - k) (drop k s))) (every-split s k) (every-from s k i h) p)
+-- block i of those of 16 bytes, and what is left behind it
+pub block_at : (s : List ℕ) (n i : ℕ) {blocks : List (List ℕ)} → blocks ≡ first_chunks 16 n s → i < n → get_or blocks i [] ≡ take 16 (drop (16 * i) s)
+block_at s n i e h = ap (λ (l : List (List ℕ)). get_or l i []) e ∙ go s n i h
+  where
+    go : (t : List ℕ) (n m : ℕ) → m < n → get_or (first_chunks 16 n t) m [] ≡ take 16 (drop (16 * m) t)
+    go t zero m h = absurd (omega arith)
+    go t (suc n) zero h = refl
+    go t (suc n) (suc m) h = go (drop 16 t) n m (omega arith) ∙ ap (take 16) (drop-drop (16 * m) 16 t ∙ ap (λ (k : ℕ). drop k t) (omega arith))
+
+pub behind_block : (s : List ℕ) (i : ℕ) → drop (16 * (i + 1)) s ≡ drop 16 (drop (16 * i) s)
+behind_block s i = sym (drop-drop 16 (16 * i) s ∙ ap (λ (k : ℕ). drop k s) (omega arith))

@@ -1,13 +1,16 @@
--- Laws of finding: the first place of a test is i and the first place in what follows i, as long as the test fails before i.
+-- Laws of finding: the first place of a test is i if the test holds there and fails before i.
 use mathlib.Core.Path.{◌≡◌, refl, sym, ◌∙◌, ap}
-use mathlib.Core.Bool.{Bool, true, false, cond, not, and-eq-true_iff}
+use mathlib.Core.Bool.{Bool, true, false, cond, not, ◌&&◌, ◌||◌, and-eq-true_iff}
 use mathlib.Core.List.{List, [], ◌∷◌}
 use Prim.Native.Nat.{ℕ, zero, suc, ◌+◌, ◌-◌, ◌≤◌, ◌<◌}
 use native.Mathlib.Omega.{arith}
 use borrow.Author.Tests.{eqb-true, eqb-false, eq-eqb, ne_eqb, lt-ltb, le-ltb, not-true}
 use lib.Dec.{eqb, ltb}
-use lib.ListN.{length, take, drop, get_or, drop_of_length-le, length-drop}
-use lib.Seq.{drop-drop, get_or-drop, take-length, drop-length}
+use lib.ListN.{length, take, drop, get_or, length-drop}
+use lib.Seq.{get_or-drop, take-length, drop-length, take_all}
+use Rattle.std.specs.Prelude.{Option, Some, None, IfSome, IfNone, MatchOption}
+use Rattle.std.specs.List.{list_any}
+use Rattle.memchr.specs.Find.{IsFirstByte, IsLastByte, is_byte}
 use Rattle.text.specs.Range.{every}
 use Rattle.text.specs.Bytes.{lacks, first_place, headed, index_of, last_index_of, index_of_text, starts_with}
 
@@ -20,35 +23,6 @@ module _ (f : List ℕ → Bool) where
   unfolding first_place
   place-le [] = omega arith
   place-le (a ∷ s) = shorter (f (a ∷ s)) (first_place f s) (length s) (place-le s)
-
-  at_front : (s : List ℕ) → 0 < length s → f s ≡ true → first_place f s ≡ 0
-  unfolding first_place
-  at_front [] h e = absurd (omega arith)
-  at_front (a ∷ s) h e = ap (λ (t : Bool). cond t 0 (suc (first_place f s))) e
-
-  behind : (s : List ℕ) → 0 < length s → f s ≡ false → first_place f s ≡ suc (first_place f (drop 1 s))
-  unfolding first_place
-  behind [] h e = absurd (omega arith)
-  behind (a ∷ s) h e = ap (λ (t : Bool). cond t 0 (suc (first_place f s))) e
-
-  -- a turn of a loop over places, as it stops, goes on and ends
-  module _ (s : List ℕ) (i : ℕ) where
-    pub place_here : i < length s → f (drop i s) ≡ true → first_place f s ≡ i + first_place f (drop i s) → first_place f s ≡ i
-    place_here h e p =
-        let q : first_place f (drop i s) ≡ 0 = at_front (drop i s) (omega (arith, length-drop i s)) e in
-        omega (arith, p, q)
-
-    pub place-next : i < length s → f (drop i s) ≡ false → first_place f s ≡ i + first_place f (drop i s) → first_place f s ≡ i + 1 + first_place f (drop (i + 1) s)
-    place-next h e p =
-        let q : first_place f (drop i s) ≡ suc (first_place f (drop 1 (drop i s))) = behind (drop i s) (omega (arith, length-drop i s)) e in
-        let r : first_place f (drop 1 (drop i s)) ≡ first_place f (drop (i + 1) s) = ap (first_place f) (drop-drop 1 i s) in
-        omega (arith, p, q, r)
-
-    pub place_none : length s ≤ i → first_place f s ≡ i + first_place f (drop i s) → first_place f s ≡ i
-    unfolding first_place
-    place_none h p =
-        let q : first_place f (drop i s) ≡ 0 = ap (first_place f) (drop_of_length-le s h) in
-        omega (arith, p, q)
 
 -- the byte at place i is the first of what follows
 first_of : (s : List ℕ) (i : ℕ) → get_or (drop i s) 0 0 ≡ get_or s i 0
@@ -64,10 +38,6 @@ pub index_of-le : (b : ℕ) (s : List ℕ) → index_of b s ≤ length s
 unfolding index_of
 index_of-le b s = place-le (headed b) s
 
-pub index_of_text-le : (p s : List ℕ) → index_of_text p s ≤ length s
-unfolding index_of_text
-index_of_text-le p s = place-le (starts_with p) s
-
 -- a front without b is passed as a whole
 pub lacks-front : (b k : ℕ) (s : List ℕ) → k ≤ length s → lacks b (take k s) ≡ true → index_of b s ≡ k + index_of b (drop k s)
 unfolding every index_of first_place
@@ -77,12 +47,6 @@ lacks-front b (suc k) (a ∷ s) h e =
     let p = (and-eq-true_iff (not (eqb a b)) (lacks b (take k s))).0 e in
     let q : index_of b s ≡ k + index_of b (drop k s) = lacks-front b k s (omega arith) p.1 in
     ap (λ (t : Bool). cond t 0 (suc (index_of b s))) (not-true (eqb a b) p.0) ∙ omega (arith, q)
-
-pub block_turn : (b : ℕ) (s : List ℕ) (i k : ℕ) → i + k ≤ length s → lacks b (take (i + k - i) (drop i s)) ≡ true → index_of b s ≡ i + index_of b (drop i s) → index_of b s ≡ i + k + index_of b (drop (i + k) s)
-block_turn b s i k h e p =
-    let z : k ≡ i + k - i = omega arith in
-    let q : index_of b (drop i s) ≡ k + index_of b (drop k (drop i s)) = lacks-front b k (drop i s) (omega (arith, length-drop i s)) (ap (λ (m : ℕ). lacks b (take m (drop i s))) z ∙ e) in
-    omega (arith, p, q, ap (index_of b) (drop-drop k i s))
 
 pub lacks-place : (b : ℕ) (s : List ℕ) → lacks b s ≡ true → index_of b s ≡ length s
 unfolding index_of first_place
@@ -153,10 +117,57 @@ last_index_of-le b (a ∷ s) = go (ltb (last_index_of b s) (length s)) (eqb a b)
     go false true h = omega arith
     go false false h = omega arith
 
--- one place less to look at
-pub one_less : (s : List ℕ) (b i : ℕ) → ((k : ℕ) → suc i ≤ k → k < length s → get_or s k 0 ≡ b → ⊥) → (get_or s i 0 ≡ b → ⊥) → (k : ℕ) → i ≤ k → k < length s → get_or s k 0 ≡ b → ⊥
-one_less s b i h e k g j q = go (eqb k i) refl
+-- std's searches of slices
+pub lacks-is : (b : ℕ) (s : List ℕ) → not (list_any (λ (a : ℕ). eqb a b) s) ≡ lacks b s
+unfolding every
+lacks-is b [] = refl
+lacks-is b (a ∷ s) = rw (← lacks-is b s) (go (eqb a b))
   where
-    go : (t : Bool) → eqb k i ≡ t → ⊥
-    go true u = e (ap (λ (m : ℕ). get_or s m 0) (sym (eqb-true k i u)) ∙ q)
-    go false u = h k (omega (arith, eqb-false k i u)) j q
+    go : (t : Bool) → not (t || list_any (λ (x : ℕ). eqb x b) s) ≡ (not t && not (list_any (λ (x : ℕ). eqb x b) s))
+    go true = refl
+    go false = refl
+
+all_from : (s : List ℕ) (i : ℕ) → take (length s - i) (drop i s) ≡ drop i s
+all_from s i = take_all (length s - i) (drop i s) (omega (arith, length-drop i s))
+
+module _ (f : List ℕ → Bool) where
+  pub place-is : (s : List ℕ) (i : ℕ) → i < length s → f (drop i s) ≡ true → ((k : ℕ) → k < i → f (drop k s) ≡ false) → first_place f s ≡ i
+  unfolding first_place
+  place-is [] i h e n = absurd (omega arith)
+  place-is (a ∷ s) zero h e n = rw e
+  place-is (a ∷ s) (suc i) h e n = rw (n 0 (omega arith)) (ap suc (place-is s i (omega arith) e (λ k g. n (suc k) (omega arith))))
+
+  pub no_place : (s : List ℕ) → ((k : ℕ) → k < length s → f (drop k s) ≡ false) → first_place f s ≡ length s
+  unfolding first_place
+  no_place [] n = refl
+  no_place (a ∷ s) n = rw (n 0 (omega arith)) (ap suc (no_place s (λ k g. n (suc k) (omega arith))))
+
+-- a place that is the first of b, or the last, or that there is none
+pub index_of-at : (b : ℕ) (s : List ℕ) (r : Option ℕ) → IsFirstByte (is_byte b) s r → record { some : IfSome r (λ i. (i ≡ index_of b s) × (i < length s)); none : IfNone r (index_of b s ≡ length s) }
+unfolding index_of
+index_of-at b s None h = record { some = tt; none = no_place (headed b) s (λ k g. headed-not s k b (λ e. h k (omega arith) g (eq-eqb _ b e))) }
+index_of-at b s (Some i) h =
+    record {
+      some = (sym (place-is (headed b) s i h.0.high (headed-is s i b (eqb-true _ b h.1)) (λ k g. headed-not s k b (λ e. h.0.before k (omega arith) g (eq-eqb _ b e)))), h.0.high);
+      none = tt;
+    }
+
+pub last_index_of-at : (b : ℕ) (s : List ℕ) (r : Option ℕ) → IsLastByte (is_byte b) s r → record { some : IfSome r (λ i. (i ≡ last_index_of b s) × (i < length s)); none : IfNone r (last_index_of b s ≡ length s) }
+last_index_of-at b s None h = record { some = tt; none = last_index_of-none b s (λ k z g e. h k z g (eq-eqb _ b e)) }
+last_index_of-at b s (Some i) h =
+    record {
+      some = (sym (last_index_of-is b s i h.0.high (eqb-true _ b h.1) (λ k g j e. h.0.after k (omega arith) j (eq-eqb _ b e))), h.0.high);
+      none = tt;
+    }
+
+pub index_of_text-at : (p s : List ℕ) (r : Option ℕ)
+    → MatchOption r ((k : ℕ) → 0 ≤ k → k < length s → starts_with p (take (length s - k) (drop k s)) ≡ false)
+    (λ i. (0 ≤ i) × (i < length s) × (starts_with p (take (length s - i) (drop i s)) ≡ true) × ((k : ℕ) → 0 ≤ k → k < i → starts_with p (take (length s - k) (drop k s)) ≡ false))
+    → record { some : IfSome r (λ i. (i ≡ index_of_text p s) × (i < length s)); none : IfNone r (index_of_text p s ≡ length s) }
+unfolding index_of_text
+index_of_text-at p s None h = record { some = tt; none = no_place (starts_with p) s (λ k g. ap (starts_with p) (sym (all_from s k)) ∙ h k (omega arith) g) }
+index_of_text-at p s (Some i) h =
+    record {
+      some = (sym (place-is (starts_with p) s i h.1 (ap (starts_with p) (sym (all_from s i)) ∙ h.2) (λ k g. ap (starts_with p) (sym (all_from s k)) ∙ h.3 k (omega arith) g)), h.1);
+      none = tt;
+    }

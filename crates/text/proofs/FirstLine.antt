@@ -26,14 +26,6 @@ module _ (s : List ℕ) (n : ℕ) (some : n ≡ 0 → ⊥) (room : n ≤ length 
       let l : length (take n s) ≡ n = length-take-le n s room in
       ap (λ (k : ℕ). take (k - 1) (take n s)) l ∙ take-take (n - 1) n s (omega arith)
 
-  pub without_is : (b : ℕ) → get_or s (n - 1) 0 ≡ b → without b (take n s) ≡ take (n - 1) s
-  unfolding without
-  without_is b e = ap (λ (t : Bool). cond t (take (length (take n s) - 1) (take n s)) (take n s)) (eq-eqb _ b (last_of ∙ e)) ∙ init-of
-
-  pub without_not : (b : ℕ) → (get_or s (n - 1) 0 ≡ b → ⊥) → without b (take n s) ≡ take n s
-  unfolding without
-  without_not b e = ap (λ (t : Bool). cond t (take (length (take n s) - 1) (take n s)) (take n s)) (ne_eqb _ b (λ q. e (sym last_of ∙ q)))
-
   bare-ended : get_or s (n - 1) 0 ≡ 10 → bare (take n s) ≡ without 13 (take (n - 1) s)
   unfolding bare
   bare-ended e = ap (λ (t : Bool). cond t (without 13 (take (length (take n s) - 1) (take n s))) (take n s)) (eq-eqb _ 10 (last_of ∙ e)) ∙ ap (without 13) init-of
@@ -46,8 +38,18 @@ without-nil : (b : ℕ) → without b [] ≡ []
 unfolding without
 without-nil b = same_of (eqb 0 b) []
 
-pub without-none : (s : List ℕ) (n b : ℕ) → n ≡ 0 → without b (take n s) ≡ take n s
-without-none s n b e = rw e (without-nil b)
+-- a line whose last byte is b, one that is empty, and any other
+pub without-at : (l : List ℕ) (b : ℕ) → get_or l (length l - 1) 0 ≡ b → without b l ≡ take (length l - 1) l
+unfolding without
+without-at l b e = rw (eq-eqb _ b e)
+
+pub without-short : (l : List ℕ) (b : ℕ) → length l < 1 → without b l ≡ l
+without-short [] b h = without-nil b
+without-short (a ∷ l) b h = absurd (omega arith)
+
+pub without-other : (l : List ℕ) (b : ℕ) → (get_or l (length l - 1) 0 ≡ b → ⊥) → without b l ≡ l
+unfolding without
+without-other l b e = rw (ne_eqb _ b e)
 
 -- `without` takes a front
 pub record Front (l m : List ℕ) : Type 0 where

@@ -3,17 +3,13 @@ use Rattle.std.specs.Prelude.{ℕ, suc, ◌-◌, Bool, true, false, cond, ◌&&�
 use Prim.Native.Char.{code}
 use Prim.Native.String.{String, [] as []ˢ, ◌∷◌ as ◌∷ˢ◌}
 use Rattle.text.specs.Range.{within, every}
-use Rattle.text.specs.declared.bytes.Ordering.{Ordering}
-use Rattle.text.specs.declared.bytes.Ordering.TheVariants.{Less, Equal, Greater}
+use Rattle.std.specs.declared.cmp.Ordering.{Ordering}
+use Rattle.std.specs.declared.cmp.Ordering.TheVariants.{Less, Equal, Greater}
 
 -- the bytes of an ASCII text
 unfoldable pub bytes : String → List ℕ
 bytes []ˢ = []
 bytes (c ∷ˢ s) = code c ∷ bytes s
-
--- bytes of a block, which are compared at once
-abbrev pub block_size : ℕ
-block_size = 16
 
 -- s is t once f is put on each byte of s
 unfoldable pub agree : (ℕ → ℕ) → List ℕ → List ℕ → Bool

@@ -1,8 +1,6 @@
 -- Numbers (document 01, 'Text rules'): an optional `+`, one or more digits, leading zeros allowed, not above the width's largest.
-use Rattle.std.specs.Prelude.{ℕ, ◌+◌, ◌-◌, ◌*◌, Bool, cond, ◌&&◌, List, [], ◌∷◌, leb, eqb}
+use Rattle.std.specs.Prelude.{ℕ, ◌+◌, ◌-◌, ◌*◌, Bool, cond, ◌&&◌, List, [], ◌∷◌, leb, eqb, Option, Some, None}
 use Rattle.text.specs.Range.{within, every}
-use Rattle.text.specs.declared.number.Number.{Number}
-use Rattle.text.specs.declared.number.Number.TheVariants.{Value, Invalid}
 
 -- the digits s behind those of n
 unfoldable pub value : ℕ → List ℕ → ℕ
@@ -14,17 +12,17 @@ abbrev pub digits : List ℕ → Bool
 digits s = every (within 48 57) s
 
 -- digits behind those of n
-unfoldable pub more : ℕ → ℕ → List ℕ → Number
-more max n s = cond (digits s && leb (value n s) max) (Value (value n s)) Invalid
+unfoldable pub more : ℕ → ℕ → List ℕ → Option ℕ
+more max n s = cond (digits s && leb (value n s) max) (Some (value n s)) None
 
 -- one or more digits
-unfoldable pub unsigned : ℕ → List ℕ → Number
-unsigned max [] = Invalid
+unfoldable pub unsigned : ℕ → List ℕ → Option ℕ
+unsigned max [] = None
 unsigned max (d ∷ s) = more max 0 (d ∷ s)
 
 -- the number that a text stands for, if it is one and not above max
-unfoldable pub number : ℕ → List ℕ → Number
-number max [] = Invalid
+unfoldable pub number : ℕ → List ℕ → Option ℕ
+number max [] = None
 number max (a ∷ s) = cond (eqb a 43) (unsigned max s) (unsigned max (a ∷ s))
 
 -- the largest number of each width

@@ -1,5 +1,5 @@
 -- UTF-8 (document 01, 'Text rules'; RFC 3629, section 4), byte by byte: a lead byte fixes how many bytes follow it and the range of the first of them.
-use Rattle.std.specs.Prelude.{ℕ, zero, suc, ◌+◌, Bool, true, false, cond, ◌&&◌, List, [], ◌∷◌, leb, eqb, drop}
+use Rattle.std.specs.Prelude.{ℕ, zero, suc, Bool, true, false, cond, ◌&&◌, List, [], ◌∷◌, leb, eqb}
 use Rattle.text.specs.Range.{within}
 use Rattle.text.specs.declared.utf8.Lead.{Lead}
 
@@ -41,7 +41,3 @@ unfoldable pub follows : ℕ → ℕ → ℕ → List ℕ → Bool
 follows zero low high s = true
 follows (suc tail) low high [] = false
 follows (suc tail) low high (b ∷ s) = within low high b && follows tail 0x80 0xBF s
-
--- `tail` bytes follow the one at place i of s, the first of them in the range that `lead` has for it
-abbrev pub tailed : ℕ → Lead → List ℕ → ℕ → Bool
-tailed tail lead s i = follows tail lead.low lead.high (drop (i + 1) s)

@@ -11,30 +11,28 @@ pub struct Line {
     pub next: usize,
 }
 
-// How long the first `n` bytes are without a byte 13 at their end.
-fn bare_len(s: &[u8], n: usize) -> usize
-    requires { n < length s.now }
-    ensures { result ≡ length (without 13 (take n s.now)) }
+// How long a line is without a byte 13 at its end.
+fn bare_len(line: &[u8]) -> usize
+    ensures { result ≡ length (without 13 line.now) }
 {
-    if n == 0 {
-        return n;
+    match line {
+        [bare @ .., 13] => bare.len(),
+        _ => line.len(),
     }
-    if s[n - 1] == 13 {
-        return n - 1;
-    }
-    n
 }
 
 // The first line of a text.
 pub fn first_line(s: &[u8]) -> Line
     ensures { result ≡ first_line s.now }
 {
-    let n = bytes::find(s, 10);
-    if s.len() <= n {
-        return Line { len: n, next: n };
-    }
-    Line {
-        len: bare_len(s, n),
-        next: n + 1,
+    match bytes::find(s, 10) {
+        Some(n) => Line {
+            len: bare_len(&s[..n]),
+            next: n + 1,
+        },
+        None => Line {
+            len: s.len(),
+            next: s.len(),
+        },
     }
 }

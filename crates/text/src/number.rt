@@ -1,77 +1,112 @@
 // Numbers (document 01, 'Text rules').
-ghost use Rattle.std.specs.Prelude.{◌≡◌};
+ghost use Rattle.std.specs.Prelude.{ℕ, ◌≡◌, ◌≤◌, refl, Option, None};
 ghost use Rattle.text.specs.Number.{number, unsigned, max8, max16, max32, max64};
 
-#[derive(Clone, Copy)]
-pub enum Number {
-    Value(u64),
-    Invalid,
-}
-
 // The number that digits stand for, if it is at most `max`. The loop stops at the first digit that
-// takes it above, so that leading zeros of any count pass and nothing overflows.
-fn digits_up_to(s: &[u8], max: u64) -> Number
+// takes it above, so that leading zeros of any count pass.
+fn digits_up_to(s: &[u8], max: u64) -> Option<u64>
     ensures { result ≡ unsigned max s.now }
 {
-    if s.len() == 0 {
-        return Number::Invalid;
+    if s.is_empty() {
+        return None;
     }
     let mut n: u64 = 0;
-    let mut i = 0;
-    while i < s.len() {
-        let d = s[i];
-        if d < 48 {
-            return Number::Invalid;
+    for d in s {
+        if !d.is_ascii_digit() {
+            return None;
         }
-        if 57 < d {
-            return Number::Invalid;
+        n = n.checked_mul(10)?.checked_add(u64::from(*d - b'0'))?;
+        if max < n {
+            return None;
         }
-        let v = (d - 48) as u64;
-        if max / 10 < n {
-            return Number::Invalid;
-        }
-        if max - n * 10 < v {
-            return Number::Invalid;
-        }
-        n = n * 10 + v;
-        i += 1;
     }
-    Number::Value(n)
+    Some(n)
 }
 
 // The number that a text stands for, if it is at most `max`.
-pub fn up_to(s: &[u8], max: u64) -> Number
+pub fn up_to(s: &[u8], max: u64) -> Option<u64>
     ensures { result ≡ number max s.now }
 {
-    if 0 < s.len() {
-        if s[0] == 43 {
-            return digits_up_to(&s[1..], max);
-        }
+    digits_up_to(s.strip_prefix(b"+").unwrap_or(s), max)
+}
+
+// An unsigned type that a number is read as: its largest number, and what a number up to that, or none, is in it. A trait of its own, since the clause of
+// `parse` needs both, and std's `TryFrom` states neither.
+pub trait Width: Sized {
+    ghost LARGEST: { ℕ };
+
+    ghost read: { Option ℕ → Option Self };
+
+    const LARGEST: u64;
+
+    // A number up to the largest, as the type has it. One above it is no number of the type: what it becomes is not said.
+    fn narrowed(n: u64) -> Self
+        ensures { n ≤ LARGEST → Some result ≡ read (Some n) };
+
+    ghost reads_none: { None ≡ read None };
+}
+
+// The four are written out: an impl that a macro of ours writes is none that the check takes.
+impl Width for u8 {
+    ghost LARGEST = { max8 };
+
+    ghost read = { λ n. n };
+
+    const LARGEST: u64 = u8::MAX as u64;
+
+    fn narrowed(n: u64) -> u8 {
+        u8::try_from(n).unwrap_or(u8::MAX)
     }
-    digits_up_to(s, max)
+
+    ghost reads_none = { refl };
 }
 
-// The four widths.
-pub fn u8_of(s: &[u8]) -> Number
-    ensures { result ≡ number max8 s.now }
-{
-    up_to(s, 0xFF)
+impl Width for u16 {
+    ghost LARGEST = { max16 };
+
+    ghost read = { λ n. n };
+
+    const LARGEST: u64 = u16::MAX as u64;
+
+    fn narrowed(n: u64) -> u16 {
+        u16::try_from(n).unwrap_or(u16::MAX)
+    }
+
+    ghost reads_none = { refl };
 }
 
-pub fn u16_of(s: &[u8]) -> Number
-    ensures { result ≡ number max16 s.now }
-{
-    up_to(s, 0xFFFF)
+impl Width for u32 {
+    ghost LARGEST = { max32 };
+
+    ghost read = { λ n. n };
+
+    const LARGEST: u64 = u32::MAX as u64;
+
+    fn narrowed(n: u64) -> u32 {
+        u32::try_from(n).unwrap_or(u32::MAX)
+    }
+
+    ghost reads_none = { refl };
 }
 
-pub fn u32_of(s: &[u8]) -> Number
-    ensures { result ≡ number max32 s.now }
-{
-    up_to(s, 0xFFFF_FFFF)
+impl Width for u64 {
+    ghost LARGEST = { max64 };
+
+    ghost read = { λ n. n };
+
+    const LARGEST: u64 = u64::MAX;
+
+    fn narrowed(n: u64) -> u64 {
+        n
+    }
+
+    ghost reads_none = { refl };
 }
 
-pub fn u64_of(s: &[u8]) -> Number
-    ensures { result ≡ number max64 s.now }
+// The number that a text stands for, if it is one of the type.
+pub fn parse<T: Width>(s: &[u8]) -> Option<T>
+    ensures { result ≡ T.read (number T.LARGEST s.now) }
 {
-    up_to(s, 0xFFFF_FFFF_FFFF_FFFF)
+    let n = up_to(s, T::LARGEST)?;
+    Some(T::narrowed(n))
 }

@@ -1,7 +1,7 @@
 // UTF-8 (document 01, 'Text rules'; RFC 3629, section 4).
 ghost use Rattle.std.specs.Prelude.{◌≡◌, ◌<◌, ◌≤◌, length, drop, get_or};
-ghost use Rattle.text.specs.Range.{every};
-ghost use Rattle.text.specs.Utf8.{expects, lead_of, utf8, ascii, tailed};
+ghost use Rattle.text.specs.Range.{within, every};
+ghost use Rattle.text.specs.Utf8.{expects, lead_of, utf8, ascii, follows};
 
 // What a lead byte fixes: `tail` bytes follow it, the first of them in low..=high.
 #[derive(Clone, Copy)]
@@ -11,17 +11,23 @@ pub struct Lead {
     pub high: u8,
 }
 
-fn expects(tail: u8, low: u8, high: u8) -> Lead
-    ensures { result ≡ expects tail low high }
-{
-    Lead {
-        tail: tail,
-        low: low,
-        high: high,
+impl Lead {
+    // Whether `b` is in the range of the first byte that follows.
+    pub(crate) fn admits(&self, b: u8) -> bool
+        ensures { result ≡ within self.now.low self.now.high b }
+    {
+        (self.low <= b) & (b <= self.high)
     }
 }
 
-// What `b` fixes as a lead byte. One that begins no character asks for a second byte in an empty range.
+fn expects(tail: u8, low: u8, high: u8) -> Lead
+    ensures { result ≡ expects tail low high }
+{
+    Lead { tail, low, high }
+}
+
+// What `b` fixes as a lead byte. One that begins no character asks for a second byte in an empty range, so that the
+// test of its second byte refuses it.
 pub fn lead_of(b: u8) -> Lead
     ensures { result ≡ lead_of b }
 {
@@ -39,21 +45,15 @@ pub fn lead_of(b: u8) -> Lead
     }
 }
 
-// Whether every byte of a text is a character by itself. The loop has no way out before the end, so
-// that it runs over many bytes at a time.
+// Whether every byte of a text is a character by itself.
 fn is_ascii(s: &[u8]) -> bool
     ensures { result ≡ every ascii s.now }
 {
-    let mut all = true;
-    let mut i = 0;
-    while i < s.len() {
-        all = all & (s[i] <= 0x7F);
-        i += 1;
-    }
-    all
+    s.is_ascii()
 }
 
-// A place behind the byte at `i`, which is a character by itself, up to which all bytes are.
+// A place behind the byte at `i`, which is a character by itself, up to which all bytes are. The loop stands for `position`,
+// which took up to four times as long where a byte is found in a text (docs/DECISIONS.md, 'Texts and messages').
 fn ascii_end(s: &[u8], i: usize) -> usize
     requires { (i < length s.now) × (get_or s.now i 0 ≤ 0x7F) }
     ensures { (i < result) × (result ≤ length s.now) × (utf8 (drop i s.now) ≡ utf8 (drop result s.now)) }
@@ -64,65 +64,37 @@ fn ascii_end(s: &[u8], i: usize) -> usize
             return e;
         }
     }
-    let mut k = i + 1;
-    while k < s.len() {
+    for k in i + 1..s.len() {
         if 0x7F < s[k] {
             return k;
         }
-        k += 1;
     }
-    k
+    s.len()
 }
 
-// Whether one byte, two or three follow the one at `i` that `lead` is about, the first of them in its range.
-fn has_one(s: &[u8], i: usize, lead: Lead) -> bool
-    requires { i < length s.now }
-    ensures { result ≡ tailed 1 lead s.now i }
+// Whether a byte follows inside a character. By `&`, as in `admits`: the tests run without a branch.
+pub(crate) fn continues(b: u8) -> bool
+    ensures { result ≡ within 0x80 0xBF b }
 {
-    if s.len() - i < 2 {
-        return false;
-    }
-    let b = s[i + 1];
-    (lead.low <= b) & (b <= lead.high)
+    (0x80 <= b) & (b <= 0xBF)
 }
 
-fn has_two(s: &[u8], i: usize, lead: Lead) -> bool
-    requires { i < length s.now }
-    ensures { result ≡ tailed 2 lead s.now i }
+// Whether as many bytes stand at the front of `rest` as `lead` says, the first of them in its range.
+fn has_tail(rest: &[u8], lead: Lead) -> bool
+    requires { lead.tail ≤ 3 }
+    ensures { result ≡ follows lead.tail lead.low lead.high rest.now }
 {
-    if s.len() - i < 3 {
-        return false;
-    }
-    let b = s[i + 2];
-    has_one(s, i, lead) & ((0x80 <= b) & (b <= 0xBF))
-}
-
-fn has_three(s: &[u8], i: usize, lead: Lead) -> bool
-    requires { i < length s.now }
-    ensures { result ≡ tailed 3 lead s.now i }
-{
-    if s.len() - i < 4 {
-        return false;
-    }
-    let b = s[i + 3];
-    has_two(s, i, lead) & ((0x80 <= b) & (b <= 0xBF))
-}
-
-// Whether as many bytes follow the one at `i` as `lead` says, in its range.
-fn has_tail(s: &[u8], i: usize, lead: Lead) -> bool
-    requires { (i < length s.now) × (lead.tail ≤ 3) }
-    ensures { result ≡ tailed lead.tail lead s.now i }
-{
-    let tail = lead.tail;
-    match tail {
-        0 => true,
-        1 => has_one(s, i, lead),
-        2 => has_two(s, i, lead),
-        _ => has_three(s, i, lead),
+    match (lead.tail, rest) {
+        (0, _) => true,
+        (1, [b, ..]) => lead.admits(*b),
+        (2, [b, c, ..]) => lead.admits(*b) & continues(*c),
+        (3, [b, c, d, ..]) => lead.admits(*b) & continues(*c) & continues(*d),
+        _ => false,
     }
 }
 
-// Whether a text is UTF-8. Each turn passes a character, as long as its lead byte says, or a run of those that are one byte.
+// Whether a text is UTF-8. Each turn passes a character, as long as its lead byte says, or a run of those that are one byte: the place moves by
+// their width. std's `from_utf8` takes more than twice the Rust's time where each character has four bytes, which misses the goal.
 pub fn is_utf8(s: &[u8]) -> bool
     ensures { result ≡ utf8 s.now }
 {
@@ -136,10 +108,10 @@ pub fn is_utf8(s: &[u8]) -> bool
             i = ascii_end(s, i);
             continue;
         }
-        if !has_tail(s, i, lead) {
+        if !has_tail(&s[i + 1..], lead) {
             return false;
         }
-        i += 1 + lead.tail as usize;
+        i += 1 + usize::from(lead.tail);
     }
     true
 }

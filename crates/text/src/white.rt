@@ -2,7 +2,7 @@
 ghost use Rattle.std.specs.Prelude.{◌≡◌, false, ◌<◌, ◌≤◌, reverse, length, take, drop, get_or};
 ghost use Rattle.text.specs.White.{white_space, begins, white1, white2, white3, width, opening, closing, at, leading, trailing, trimmed};
 
-use crate::utf8;
+use crate::{bytes, utf8};
 
 // A part of a text: where it starts, and its length.
 #[derive(Clone, Copy)]
@@ -11,21 +11,33 @@ pub struct Place {
     pub len: usize,
 }
 
+// What stands at a place. A place that reaches past the text has what there is of it.
+pub fn part_of(s: &[u8], place: Place) -> &[u8]
+    ensures { result.now ≡ take place.len (drop place.start s.now) }
+{
+    let rest = s.get(place.start..).unwrap_or(b"");
+    rest.get(..place.len).unwrap_or(rest)
+}
+
 // Whether a code point is white space: document 01's list.
+#[tactic(auto, using(std::proofs::lemmas::Bool::Decides::nat_tests), unfolding(crate::specs::White::white_space))]
 pub fn is_white_space(c: u32) -> bool
     ensures { result ≡ white_space c }
 {
-    ((0x0009 <= c) & (c <= 0x000D))
-        | (c == 0x0020)
-        | (c == 0x0085)
-        | (c == 0x00A0)
-        | (c == 0x1680)
-        | ((0x2000 <= c) & (c <= 0x200A))
-        | (c == 0x2028)
-        | (c == 0x2029)
-        | (c == 0x202F)
-        | (c == 0x205F)
-        | (c == 0x3000)
+    matches!(
+        c,
+        0x0009..=0x000D
+            | 0x0020
+            | 0x0085
+            | 0x00A0
+            | 0x1680
+            | 0x2000..=0x200A
+            | 0x2028
+            | 0x2029
+            | 0x202F
+            | 0x205F
+            | 0x3000
+    )
 }
 
 // Whether `a` and `b` begin a character of 1 + `tail` bytes.
@@ -33,54 +45,49 @@ fn begin(tail: u8, a: u8, b: u8) -> bool
     ensures { result ≡ begins tail a b }
 {
     let l = utf8::lead_of(a);
-    (l.tail == tail) & ((l.low <= b) & (b <= l.high))
+    (l.tail == tail) & l.admits(b)
 }
 
 fn is_white1(a: u8) -> bool
     ensures { result ≡ white1 a }
 {
-    (a <= 0x7F) & is_white_space(a as u32)
+    (a <= 0x7F) & is_white_space(u32::from(a))
 }
 
 fn is_white2(a: u8, b: u8) -> bool
     ensures { result ≡ white2 a b }
 {
-    begin(1, a, b) & is_white_space((a as u32) % 32 * 64 + (b as u32) % 64)
+    begin(1, a, b) & is_white_space(u32::from(a) % 32 * 64 + u32::from(b) % 64)
 }
 
 fn is_white3(a: u8, b: u8, c: u8) -> bool
     ensures { result ≡ white3 a b c }
 {
     begin(2, a, b)
-        & ((0x80 <= c) & (c <= 0xBF))
-        & is_white_space(((a as u32) % 16 * 64 + (b as u32) % 64) * 64 + (c as u32) % 64)
+        & utf8::continues(c)
+        & is_white_space((u32::from(a) % 16 * 64 + u32::from(b) % 64) * 64 + u32::from(c) % 64)
 }
 
-// How many bytes of white space the three tests stand for.
+// How many bytes of white space the three tests stand for; 0, as the definition has it, passes nothing.
 fn width_of(one: bool, two: bool, three: bool) -> usize
     ensures { result ≡ width one two three }
 {
     if one {
-        return 1;
+        1
+    } else if two {
+        2
+    } else if three {
+        3
+    } else {
+        0
     }
-    if two {
-        return 2;
-    }
-    if three { 3 } else { 0 }
 }
 
 // The same for a byte that is a character by itself.
 fn ascii_width(a: u8) -> usize
     ensures { result ≡ width (white_space a) false false }
 {
-    width_of(is_white_space(a as u32), false, false)
-}
-
-// The byte at `i`, 0 past the end.
-fn byte_at(s: &[u8], i: usize) -> u8
-    ensures { result ≡ get_or s.now i 0 }
-{
-    if i < s.len() { s[i] } else { 0 }
+    width_of(is_white_space(u32::from(a)), false, false)
 }
 
 // How many bytes the white-space character has that starts at `i`.
@@ -92,12 +99,12 @@ fn opening_at(s: &[u8], i: usize) -> usize
     if a <= 0x7F {
         return ascii_width(a);
     }
-    let b = byte_at(s, i + 1);
-    let c = byte_at(s, i + 2);
+    let b = bytes::byte_at(s, i + 1);
+    let c = bytes::byte_at(s, i + 2);
     width_of(is_white1(a), is_white2(a, b), is_white3(a, b, c))
 }
 
-// How many bytes of white space stand at the front. Each turn passes one character.
+// How many bytes of white space stand at the front. Each turn passes one character: the place moves by its width.
 pub fn leading_of(s: &[u8]) -> usize
     ensures { result ≡ leading s.now }
 {
@@ -112,7 +119,7 @@ pub fn leading_of(s: &[u8]) -> usize
     i
 }
 
-// The byte `k` before the last of the first `e`, 0 if there is none.
+// The byte `k` before the last of the first `e`, 0 if there is none. By hand: of `s[..e].iter().rev().nth(k)` the proof did not close.
 fn byte_before(s: &[u8], e: usize, k: usize) -> u8
     requires { e ≤ length s.now }
     ensures { result ≡ get_or (reverse (take e s.now)) k 0 }
@@ -134,7 +141,7 @@ fn closing_at(s: &[u8], e: usize) -> usize
     width_of(is_white1(c), is_white2(b, c), is_white3(a, b, c))
 }
 
-// How many bytes of white space stand at the end. Each turn passes one character.
+// How many bytes of white space stand at the end. Each turn passes one character: the place moves by its width.
 pub fn trailing_of(s: &[u8]) -> usize
     ensures { result ≡ trailing s.now }
 {
@@ -159,7 +166,7 @@ pub fn trim(s: &[u8]) -> Place
     }
     let rest = &s[start..];
     Place {
-        start: start,
+        start,
         len: rest.len() - trailing_of(rest),
     }
 }

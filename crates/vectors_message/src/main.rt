@@ -3,175 +3,154 @@
 // is: a letter, nine numbers of four digits, then bytes.
 #![tactic(auto)]
 
-ghost use Rattle.std.specs.Prelude.{◌<◌};
-
-use message::{Built, Message, Parsed};
-use recorded::Tally;
+use message::{BuildError, Message};
+use std::alloc::{AllocError, Global};
 use std::io;
-use std::io::Stdin;
 use text::white::Place;
 
-// Column `k` of nine; 0 where a line does not have it.
-fn column(line: &[u8], k: usize) -> usize
-    ensures { result < 65536 }
-{
-    if 8 < k {
-        return 0;
-    }
-    if line.len() < 47 {
-        return 0;
-    }
-    let at = 2 + 5 * k;
-    let n = recorded::number(&line[at..at + 4]);
-    if 65535 < n {
-        return 0;
-    }
-    n as usize
+// As much as a build of the list is lent.
+const BUFFER_MAX: usize = 4096;
+
+// The eight numbers of a line behind the count of its bytes.
+type Numbers = [usize; 8];
+
+// Where a text is that a message does not have.
+const NOWHERE: Place = Place { start: 0, len: 0 };
+
+// The columns of a line of the list in their order.
+fn numbers_of(kind: usize, first: Place, second: Place, third: Place, wait: u8) -> Numbers {
+    [
+        kind,
+        first.start,
+        first.len,
+        second.start,
+        second.len,
+        third.start,
+        third.len,
+        usize::from(wait),
+    ]
 }
 
-// Whether columns `k` and `k + 1` are this place.
-fn is_place(line: &[u8], k: usize, place: Place) -> bool {
-    if 7 < k {
-        return false;
-    }
-    (column(line, k) == place.start) & (column(line, k + 1) == place.len)
-}
-
-fn is_kind(line: &[u8], kind: usize) -> bool {
-    column(line, 1) == kind
-}
-
-fn is_message(line: &[u8], m: Message) -> bool {
-    match m {
+// What is listed of a message. The kinds are the numbers 1 to 4 since a column of the list is, and the Rust's side writes
+// the same. Crate `message_c` has such a function for C, in an order of its own.
+fn of_message(message: Message) -> Numbers {
+    match message {
         Message::NotifyAlive {
             notification_type,
             unique_service_name,
             location,
-        } => {
-            is_kind(line, 1)
-                & is_place(line, 2, notification_type)
-                & is_place(line, 4, unique_service_name)
-                & is_place(line, 6, location)
-        }
+        } => numbers_of(1, notification_type, unique_service_name, location, 0),
         Message::NotifyByeBye {
             notification_type,
             unique_service_name,
-        } => is_kind(line, 2)
-            & is_place(line, 2, notification_type)
-            & is_place(line, 4, unique_service_name),
+        } => numbers_of(2, notification_type, unique_service_name, NOWHERE, 0),
         Message::Search {
             search_target,
             maximum_wait_sec,
-        } => is_kind(line, 3)
-            & is_place(line, 2, search_target)
-            & (column(line, 8) == maximum_wait_sec as usize),
+        } => numbers_of(3, search_target, NOWHERE, NOWHERE, maximum_wait_sec),
         Message::Response {
             search_target,
             unique_service_name,
             location,
-        } => {
-            is_kind(line, 4)
-                & is_place(line, 2, search_target)
-                & is_place(line, 4, unique_service_name)
-                & is_place(line, 6, location)
-        }
+        } => numbers_of(4, search_target, unique_service_name, location, 0),
     }
 }
 
-fn is_parsed(line: &[u8], s: &[u8]) -> bool {
-    let answer = message::parse(s);
-    let Parsed::Message(m) = answer else {
-        return is_kind(line, message::refusal_of(answer) as usize);
+// What crate `message` answers to a datagram; a refusal stands in the place of the kind.
+fn of_parse(datagram: &[u8]) -> Numbers {
+    match message::parse(datagram) {
+        Ok(message) => of_message(message),
+        Err(error) => numbers_of(error.number() as usize, NOWHERE, NOWHERE, NOWHERE, 0),
+    }
+}
+
+// The refusal and the length of the message, 0 where there is none, as the list's columns have them.
+fn of_built(built: Result<usize, BuildError>) -> (usize, usize) {
+    match built {
+        Ok(len) => (0, len),
+        Err(error) => (error.number() as usize, 0),
+    }
+}
+
+// The bytes of a line of a build: three texts, and the message that is built of them.
+#[derive(Clone, Copy)]
+struct Build<'a> {
+    first: &'a [u8],
+    second: &'a [u8],
+    third: &'a [u8],
+    message: &'a [u8],
+}
+
+// The build whose texts have these lengths; nothing where the bytes are fewer.
+fn build_of(bytes: &[u8], a: usize, b: usize, c: usize) -> Option<Build<'_>> {
+    let (first, rest) = bytes.split_at_checked(a)?;
+    let (second, rest) = rest.split_at_checked(b)?;
+    let (third, message) = rest.split_at_checked(c)?;
+    Some(Build {
+        first,
+        second,
+        third,
+        message,
+    })
+}
+
+// What crate `message` answers to a build; nothing where the letter is none of a build.
+fn built_by(letter: &[u8], buf: &mut [u8], build: Build) -> Option<(usize, usize)> {
+    let Build {
+        first,
+        second,
+        third,
+        ..
+    } = build;
+    Some(of_built(match letter {
+        b"s" => message::build_search(buf, first),
+        b"r" => message::build_response(buf, first, second, third),
+        b"n" => message::build_notify(buf, first, second, third),
+        b"b" => message::build_byebye(buf, first, second),
+        _ => return None,
+    }))
+}
+
+// Whether a build answers as recorded, writes the message and behind it leaves the buffer alone.
+fn is_built(letter: &[u8], numbers: &[usize], bytes: &[u8]) -> bool {
+    let [refusal, len, a, b, c, room, _, _] = *numbers else {
+        return false;
     };
-    is_message(line, m)
-}
-
-fn built_by(letter: u8, buf: &mut [u8], a: &[u8], b: &[u8], c: &[u8]) -> Built {
-    match letter {
-        b's' => message::build_search(buf, a),
-        b'r' => message::build_response(buf, a, b, c),
-        b'n' => message::build_notify(buf, a, b, c),
-        _ => message::build_byebye(buf, a, b),
-    }
-}
-
-// Whether a buffer holds a message and behind it what it held before.
-fn holds(buf: &[u8], message: &[u8]) -> bool {
-    if buf.len() < message.len() {
+    let Some(build) = build_of(bytes, a, b, c) else {
         return false;
-    }
-    let mut i = 0;
-    while i < buf.len() {
-        let mut expected = 165;
-        if i < message.len() {
-            expected = message[i];
-        }
-        if buf[i] != expected {
-            return false;
-        }
-        i += 1;
-    }
-    true
-}
-
-fn is_built_in(line: &[u8], s: &[u8], buf: &mut [u8]) -> bool {
-    let a = column(line, 3);
-    let b = a + column(line, 4);
-    let c = b + column(line, 5);
-    if line.len() < 1 {
+    };
+    let mut buf = [0u8; BUFFER_MAX];
+    let Some(buf) = buf.get_mut(..room) else {
         return false;
-    }
-    if s.len() < c {
-        return false;
-    }
+    };
     recorded::fill(buf);
-    let built = built_by(line[0], buf, &s[0..a], &s[a..b], &s[b..c]);
-    (built.refusal as usize == column(line, 1))
-        & (built.len == column(line, 2))
-        & holds(buf, &s[c..])
+    built_by(letter, buf, build) == Some((refusal, len))
+        && buf
+            .strip_prefix(build.message)
+            .is_some_and(|rest| recorded::is_filled(rest))
 }
 
-fn is_built(line: &[u8], s: &[u8]) -> bool {
-    let room = column(line, 6);
-    let mut buf = [0u8; 4096];
-    if buf.len() < room {
-        return false;
+// Whether a line's answer agrees; that of a line that is not whole does not.
+fn agrees(alloc: Global, fields: &[&[u8]]) -> Result<bool, AllocError> {
+    let [letter, count, columns @ .., digits] = fields else {
+        return Ok(false);
+    };
+    let bytes = recorded::decoded(alloc, digits)?;
+    if recorded::number(count) != bytes.len() as u64 {
+        return Ok(false);
     }
-    is_built_in(line, s, &mut buf[0..room])
-}
-
-// One line of the list. A line that is not whole differs.
-fn agrees(line: &[u8]) -> bool {
-    if line.len() < 47 {
-        return false;
-    }
-    let mut bytes = [0u8; 4096];
-    let n = recorded::bytes(&line[47..], &mut bytes);
-    if column(line, 0) != n {
-        return false;
-    }
-    if line[0] == b'p' {
-        return is_parsed(line, &bytes[..n]);
-    }
-    is_built(line, &bytes[..n])
-}
-
-// Line by line to the end of the list, which is far shorter than a million.
-fn replay(from: &mut Stdin) -> Tally {
-    let mut tally = Tally::none();
-    let mut turns: u64 = 1000000;
-    while 0 < turns {
-        let mut line = [0u8; 4096];
-        let n = recorded::read_line(from, &mut line);
-        if n == 0 {
-            return tally;
-        }
-        tally = tally.with(agrees(&line[..n]));
-        turns -= 1;
-    }
-    tally
+    let numbers: Vec<usize> = columns
+        .iter()
+        .map(|column| recorded::number(column) as usize)
+        .collect(alloc)?;
+    Ok(match *letter {
+        b"p" => numbers.as_slice() == of_parse(&bytes).as_slice(),
+        _ => is_built(letter, &numbers, &bytes),
+    })
 }
 
 fn main(rt: HostRuntime) -> io::Result<()> {
-    replay(&mut rt.stdin()).print(&rt)
+    let alloc = rt.alloc();
+    let tally = recorded::replay(alloc, rt.reader(), |fields| agrees(alloc, fields))?;
+    println!(rt; "{tally}")
 }

@@ -3,118 +3,100 @@
 // a letter, the input's length, two answers, the input.
 #![tactic(auto)]
 
-use recorded::Tally;
+use std::alloc::{AllocError, Global};
+use std::cmp::Ordering;
 use std::io;
-use std::io::Stdin;
-use text::bytes::Ordering;
-use text::number::Number;
+use text::number::Width;
 
-fn flag(b: bool) -> u64 {
-    if b { 1 } else { 0 }
+// The two answers of a line.
+type Answers = (u64, u64);
+
+fn of_flag(flag: bool) -> Answers {
+    (u64::from(flag), 0)
 }
 
-fn is_number(n: Number, a: u64, b: usize) -> bool {
-    match n {
-        Number::Value(v) => v == a && b == 1,
-        Number::Invalid => b == 0,
+// The number and 1, or twice 0: these are the columns of the list, and the Rust's side writes the same.
+fn of_number<T: Width + Into<u64>>(s: &[u8]) -> Answers {
+    match text::number::parse::<T>(s) {
+        Some(number) => (number.into(), 1),
+        None => (0, 0),
     }
 }
 
-fn order_of(o: Ordering) -> u64 {
-    match o {
+fn of_line(s: &[u8]) -> Answers {
+    let line = text::lines::first_line(s);
+    (line.len as u64, line.next as u64)
+}
+
+fn of_trim(s: &[u8]) -> Answers {
+    let place = text::white::trim(s);
+    (place.start as u64, place.len as u64)
+}
+
+// What crate `text` answers about one text; nothing where the letter does not ask that.
+fn of_one(letter: &[u8], s: &[u8]) -> Option<Answers> {
+    Some(match letter {
+        b"u" => of_flag(text::utf8::is_utf8(s)),
+        b"g" => of_flag(text::good::is_good(s)),
+        b"l" => of_line(s),
+        b"t" => of_trim(s),
+        b"1" => of_number::<u8>(s),
+        b"2" => of_number::<u16>(s),
+        b"4" => of_number::<u32>(s),
+        b"8" => of_number::<u64>(s),
+        _ => return None,
+    })
+}
+
+// The list's column for an order.
+fn of_order(ordering: Ordering) -> u64 {
+    match ordering {
         Ordering::Less => 0,
         Ordering::Equal => 1,
         Ordering::Greater => 2,
     }
 }
 
-fn is_line(s: &[u8], a: u64, b: usize) -> bool {
-    let line = text::lines::first_line(s);
-    line.len as u64 == a && line.next == b
+// A place in a text; the text's length where there is none, as the list's column has it.
+fn place_or_len(place: Option<usize>, s: &[u8]) -> u64 {
+    place.unwrap_or(s.len()) as u64
 }
 
-fn is_trimmed(s: &[u8], a: u64, b: usize) -> bool {
-    let place = text::white::trim(s);
-    place.start as u64 == a && place.len == b
-}
-
-// The answers about two texts.
-fn of_two(letter: u8, a: u64, s: &[u8], t: &[u8]) -> bool {
-    if letter == b'o' {
-        return order_of(text::bytes::order(s, t)) == a;
-    }
-    if letter == b'e' {
-        return flag(text::bytes::equal_upper(s, t)) == a;
-    }
-    if letter == b'x' {
-        return text::bytes::find_text(s, t) as u64 == a;
-    }
-    if t.len() != 1 {
-        return false;
-    }
-    if letter == b'f' {
-        return text::bytes::find(s, t[0]) as u64 == a;
-    }
-    letter == b'r' && text::bytes::find_last(s, t[0]) as u64 == a
-}
-
-fn split(letter: u8, a: u64, b: usize, s: &[u8]) -> bool {
-    if s.len() < b {
-        return false;
-    }
-    of_two(letter, a, &s[0..b], &s[b..])
-}
-
-// Whether crate `text` answers as recorded.
-fn answers(letter: u8, a: u64, b: usize, s: &[u8]) -> bool {
-    match letter {
-        b'u' => flag(text::utf8::is_utf8(s)) == a,
-        b'g' => flag(text::good::is_good(s)) == a,
-        b'l' => is_line(s, a, b),
-        b't' => is_trimmed(s, a, b),
-        b'1' => is_number(text::number::u8_of(s), a, b),
-        b'2' => is_number(text::number::u16_of(s), a, b),
-        b'4' => is_number(text::number::u32_of(s), a, b),
-        b'8' => is_number(text::number::u64_of(s), a, b),
-        _ => split(letter, a, b, s),
+// The first answer about two texts; nothing where the letter does not ask that.
+fn of_two(letter: &[u8], s: &[u8], t: &[u8]) -> Option<u64> {
+    match (letter, t) {
+        (b"o", _) => Some(of_order(text::bytes::order(s, t))),
+        (b"e", _) => Some(u64::from(text::bytes::equal_upper(s, t))),
+        (b"x", _) => Some(place_or_len(text::bytes::find_text(s, t), s)),
+        (b"f", [byte]) => Some(place_or_len(text::bytes::find(s, *byte), s)),
+        (b"r", [byte]) => Some(place_or_len(text::bytes::find_last(s, *byte), s)),
+        _ => None,
     }
 }
 
-// One line of the list. A line that is not whole differs.
-fn agrees(line: &[u8]) -> bool {
-    if line.len() < 29 {
-        return false;
+// Whether crate `text` answers as recorded. The second answer about two texts is the length of the first.
+fn is_answered(letter: &[u8], recorded: Answers, input: &[u8]) -> bool {
+    if let Some(answers) = of_one(letter, input) {
+        return answers == recorded;
     }
-    let mut input = [0u8; 4096];
-    let n = recorded::bytes(&line[29..], &mut input);
-    if recorded::number(&line[2..6]) != n as u64 {
-        return false;
-    }
-    let b = recorded::number(&line[24..28]);
-    answers(
-        line[0],
-        recorded::number(&line[7..23]),
-        b as usize,
-        &input[..n],
-    )
+    input
+        .split_at_checked(recorded.1 as usize)
+        .is_some_and(|(s, t)| of_two(letter, s, t) == Some(recorded.0))
 }
 
-// Line by line to the end of the list, which is far shorter than a million.
-fn replay(from: &mut Stdin) -> Tally {
-    let mut tally = Tally::none();
-    let mut turns: u64 = 1000000;
-    while 0 < turns {
-        let mut line = [0u8; 4096];
-        let n = recorded::read_line(from, &mut line);
-        if n == 0 {
-            return tally;
-        }
-        tally = tally.with(agrees(&line[..n]));
-        turns -= 1;
-    }
-    tally
+// Whether a line's answers agree; those of a line that is not whole do not.
+fn agrees(alloc: Global, fields: &[&[u8]]) -> Result<bool, AllocError> {
+    let [letter, length, first, second, digits] = fields else {
+        return Ok(false);
+    };
+    let input = recorded::decoded(alloc, digits)?;
+    let answers = (recorded::number(first), recorded::number(second));
+    let is_whole = recorded::number(length) == input.len() as u64;
+    Ok(is_whole && is_answered(letter, answers, &input))
 }
 
 fn main(rt: HostRuntime) -> io::Result<()> {
-    replay(&mut rt.stdin()).print(&rt)
+    let alloc = rt.alloc();
+    let tally = recorded::replay(alloc, rt.reader(), |fields| agrees(alloc, fields))?;
+    println!(rt; "{tally}")
 }

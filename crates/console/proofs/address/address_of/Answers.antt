@@ -1,107 +1,44 @@
-use mathlib.Core.Path.{refl, sym, ◌∙◌}
-use native.Mathlib.Omega.{arith}
-use borrow.Author.Rules.{rules}
+-- `address_of` meets its contract: a dot or an octet is missing, or all four are there.
+use Rattle.std.proofs.Common.{refl, sym, ◌∙◌, ◌-◌, ◌+◌, arith, length-drop}
 use Rattle.console.specs.Address.{address}
-use Rattle.console.proofs.Octets.{most-some, most-any, most-next, no_dot, no_octet, an_octet, last-octet, no_last}
-use Rattle.console.proofs.Parts.{tail, tail-length}
-use lib.Seq.{length-take-le}
+use Rattle.console.proofs.Octets.{bound-next, no_dot, no_octet, an_octet, no_last, last-octet}
+use Rattle.console.proofs.Parts.{tail}
 use Rattle.console.proofs.address.address_of.Goals as goal
 
-pub loop-left-init : goal.loop-left-init
+pub loop-init : goal.loop-init
 unfolding address
-loop-left-init c = (omega arith, omega arith, omega arith, refl)
+loop-init c = (omega arith, omega arith, refl)
 
-pub slice_bounds-rest-count : goal.slice_bounds-rest-count
-slice_bounds-rest-count c = omega arith
+pub returns-in_err-dot : goal.returns-in_err-dot
+returns-in_err-dot c =
+    let l = c.loop in
+    c.from_residual.ensures ∙ sym (l.invariant.2 ∙ no_dot l.n l.rest.now refl (3 - l.counter) (omega arith) (omega (arith, c.in_err-dot.ensures.none)))
 
-pub slice_bounds-rest-start : goal.slice_bounds-rest-start
-slice_bounds-rest-start c = omega arith
+pub returns-in_err-octet_of : goal.returns-in_err-octet_of
+returns-in_err-octet_of c =
+    let l = c.loop in
+    let dot = c.in_ok-dot.ensures.some in
+    c.from_residual-in_err-octet_of.ensures ∙ sym (l.invariant.2 ∙ no_octet l.n l.rest.now dot.0 (3 - l.counter) (omega arith) dot.1 c.in_err-octet_of.ensures)
 
-pub slice_bounds-rest-end : goal.slice_bounds-rest-end
-slice_bounds-rest-end c = omega arith
+pub overflow_add-rest : goal.overflow_add-rest
+overflow_add-rest c = omega (arith, c.in_ok-dot.ensures.some, c.loop.invariant.1)
 
-pub find-dot-requires : goal.find-dot-requires
-find-dot-requires c = search rules
-
-pub returns-then-rest-dot : goal.returns-then-rest-dot
-returns-then-rest-dot c =
-    let s = c.args.s.now in
-    sym (c.loop-left.invariant.3 ∙ no_dot s c.loop-left.at c.loop-left.left c.loop-left.n c.find-dot.result _ (tail s c.loop-left.at) c.find-dot.ensures (omega arith) (omega (arith, c.if-rest-dot.true)))
-
-pub slice_bounds-octet_of-end : goal.slice_bounds-octet_of-end
-slice_bounds-octet_of-end c = sym (length-take-le _ _ (omega (arith, c.if-rest-dot.false)))
-
-pub octet_of-d-requires : goal.octet_of-d-requires
-octet_of-d-requires c = search rules
-
-pub returns-then-d-ge256 : goal.returns-then-d-ge256
-returns-then-d-ge256 c =
-    let s = c.args.s.now in
-    sym (c.loop-left.invariant.3 ∙ no_octet s c.loop-left.at c.loop-left.left c.loop-left.n c.find-dot.result c.octet_of-d.result _ (tail s c.loop-left.at) c.find-dot.ensures (omega arith) c.octet_of-d.ensures c.if-d-ge256.true)
-
-pub overflow_mul-n : goal.overflow_mul-n
-overflow_mul-n c =
-    let s = c.args.s.now in
-    omega (arith, most-some c.loop-left.left (omega arith))
-
-pub overflow_add-n : goal.overflow_add-n
-overflow_add-n c =
-    let s = c.args.s.now in
-    omega (arith, most-some c.loop-left.left (omega arith))
-
-pub overflow_add-at : goal.overflow_add-at
-overflow_add-at c =
-    let s = c.args.s.now in
-    omega (arith, tail-length s c.loop-left.at)
-
-pub overflow_add-at-in-loop-left : goal.overflow_add-at-in-loop-left
-overflow_add-at-in-loop-left c =
-    let s = c.args.s.now in
-    omega (arith, tail-length s c.loop-left.at)
-
-pub overflow_sub-left : goal.overflow_sub-left
-overflow_sub-left c = omega arith
-
-pub loop-left-smaller : goal.loop-left-smaller
-loop-left-smaller c = omega arith
-
-pub loop-left-preserved : goal.loop-left-preserved
-loop-left-preserved c =
-    let s = c.args.s.now in
-    let f = c.find-dot in
-    let d = c.octet_of-d in (
-      omega (arith, tail-length s c.loop-left.at),
-      omega arith,
-      most-next c.loop-left.left c.loop-left.n d.result (omega arith) c.loop-left.invariant.1 c.if-d-ge256.false c.loop-left.invariant.2,
-      c.loop-left.invariant.3
-          ∙ an_octet s c.loop-left.at c.loop-left.left c.loop-left.n f.result d.result _ (tail s c.loop-left.at) f.ensures (omega arith) d.ensures
-          c.if-rest-dot.false c.if-d-ge256.false,
+pub loop-preserved : goal.loop-preserved
+loop-preserved c =
+    let l = c.loop in
+    let dot = c.in_ok-dot.ensures.some in
+    let t = tail l.rest.now (c.in_ok-dot.dot + 1) in (
+      bound-next l.counter l.n _ (omega arith) (omega arith) l.invariant.0,
+      rw t (omega (arith, l.invariant.1, length-drop (c.in_ok-dot.dot + 1) l.rest.now)),
+      l.invariant.2 ∙ an_octet l.n l.rest.now dot.0 (3 - l.counter) (3 - (l.counter + 1)) (omega arith) dot.1 c.in_ok-octet_of.ensures ∙ sym (rw (c.from.ensures, t) refl),
     )
 
-pub slice_bounds-octet_of-count : goal.slice_bounds-octet_of-count
-slice_bounds-octet_of-count c = omega arith
-
-pub slice_bounds-octet_of-start : goal.slice_bounds-octet_of-start
-slice_bounds-octet_of-start c = omega arith
-
-pub slice_bounds-octet_of-end-2 : goal.slice_bounds-octet_of-end-2
-slice_bounds-octet_of-end-2 c = omega arith
-
-pub octet_of-d-requires-2 : goal.octet_of-d-requires-2
-octet_of-d-requires-2 c = search rules
-
-pub returns-then-d-ge256-2 : goal.returns-then-d-ge256-2
-returns-then-d-ge256-2 c =
-    let s = c.args.s.now in
-    sym (c.loop-left.invariant.3 ∙ no_last s c.loop-left.at c.loop-left.left c.loop-left.n c.octet_of-d-2.result _ (tail s c.loop-left.at) (omega arith) c.octet_of-d-2.ensures c.if-d-ge256-2.true)
-
-pub overflow_mul-result : goal.overflow_mul-result
-overflow_mul-result c = omega (arith, most-any c.loop-left.left)
-
-pub overflow_add-result : goal.overflow_add-result
-overflow_add-result c = omega (arith, most-any c.loop-left.left)
+pub returns-in_err-octet_of-2 : goal.returns-in_err-octet_of-2
+returns-in_err-octet_of-2 c =
+    let l = c.loop in
+    c.from_residual-in_err-octet_of-2.ensures ∙ sym (l.invariant.2 ∙ no_last l.n l.rest.now (3 - l.counter) (omega arith) c.in_err-octet_of-2.ensures)
 
 pub returns : goal.returns
 returns c =
-    let s = c.args.s.now in
-    sym (c.loop-left.invariant.3 ∙ last-octet s c.loop-left.at c.loop-left.left c.loop-left.n c.octet_of-d-2.result _ (tail s c.loop-left.at) (omega arith) c.octet_of-d-2.ensures c.if-d-ge256-2.false)
+    let l = c.loop in
+    rw c.from-2.ensures (sym (l.invariant.2 ∙ last-octet l.n l.rest.now (3 - l.counter) (omega arith) c.in_ok-octet_of-2.ensures))

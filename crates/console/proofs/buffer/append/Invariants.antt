@@ -1,11 +1,7 @@
--- `append` meets its contract. The invariant: the first `i` bytes of the text are appended. The measure is what is left of the text.
-use Prim.Native.Nat.{◌≤◌, ◌-◌}
-use lib.ListN.{length, take}
+-- `append` meets its contract. The invariant: so much of the text is appended.
+use Rattle.std.proofs.Common.{take}
 use Rattle.console.specs.Buffer.{Appends}
 use Rattle.console.proofs.buffer.append.Given as goal
 
-abbrev pub invariant-loop-i : goal.invariant-loop-i
-invariant-loop-i l = (l.i ≤ length l.text) × Appends (take l.i l.text) l.initial.buf l.len l.buf l.end
-
-abbrev pub decreases-loop-i : goal.decreases-loop-i
-decreases-loop-i l = length l.text - l.i
+abbrev pub invariant-loop-byte : goal.invariant-loop-byte
+invariant-loop-byte l = Appends (take l.byte-index l.text) l.initial.buf l.len l.buf l.end

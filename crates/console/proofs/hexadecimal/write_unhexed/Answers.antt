@@ -1,63 +1,23 @@
-use mathlib.Core.Path.{ap}
-use Prim.Native.Nat.{ℕ}
-use native.Mathlib.Omega.{arith}
-use borrow.Author.Rules.{rules}
-use Rattle.console.specs.Hexadecimal.{pairs, unhexed}
-use Rattle.console.proofs.Appending as laws
-use Rattle.console.proofs.Pairs.{pairs_start, pairs-turn}
+-- `write_unhexed` meets its contract: the byte of each pair of digits is written.
+use Rattle.std.proofs.Common.{◌∙◌, ◌/◌, ◌<◌, arith, ap, length, get_or}
+use Rattle.console.specs.Hexadecimal.{pairs, unhexed, nibble}
+use Rattle.console.proofs.Appending.{filled, text}
+use Rattle.console.proofs.Pairs.{pairs_start, pairs-turn, digit-of-pair}
 use Rattle.console.proofs.hexadecimal.write_unhexed.Goals as goal
 
-pub loop-i-init : goal.loop-i-init
-loop-i-init c = let s = c.args in (omega arith, pairs_start s.text.now s.buf.now 0)
+pub loop-high-init : goal.loop-high-init
+loop-high-init c = pairs_start c.args.text.now c.args.buf.now 0
 
-pub overflow_mul-i : goal.overflow_mul-i
-overflow_mul-i c = omega arith
-
-pub bounds-text-i : goal.bounds-text-i
-bounds-text-i c = omega arith
-
-pub nibble_of-requires : goal.nibble_of-requires
-nibble_of-requires c = search rules
-
-pub overflow_mul-byte : goal.overflow_mul-byte
-overflow_mul-byte c = omega arith
-
-pub overflow_mul-i-in-loop-i : goal.overflow_mul-i-in-loop-i
-overflow_mul-i-in-loop-i c = omega arith
-
-pub overflow_add-i : goal.overflow_add-i
-overflow_add-i c = omega arith
-
-pub bounds-text-i-in-loop-i : goal.bounds-text-i-in-loop-i
-bounds-text-i-in-loop-i c = omega arith
-
-pub nibble_of-requires-in-loop-i : goal.nibble_of-requires-in-loop-i
-nibble_of-requires-in-loop-i c = search rules
-
-pub overflow_add-byte : goal.overflow_add-byte
-overflow_add-byte c = omega arith
-
-pub push-len-requires : goal.push-len-requires
-push-len-requires c = search rules
-
-pub overflow_add-i-in-loop-i : goal.overflow_add-i-in-loop-i
-overflow_add-i-in-loop-i c = omega arith
-
-pub loop-i-smaller : goal.loop-i-smaller
-loop-i-smaller c = omega arith
-
-pub loop-i-preserved : goal.loop-i-preserved
-loop-i-preserved c =
-    let s = c.args in
-    let high = c.nibble_of.ensures.value in
-    let low = c.nibble_of-in-loop-i.ensures.value in
-    (omega arith, pairs-turn s.text.now c.loop-i.i high low c.loop-i.invariant.1 c.push-len.ensures)
-
-pub shape_of-buf : goal.shape_of-buf
-shape_of-buf c = c.loop-i.invariant.1.room
+pub loop-high-preserved : goal.loop-high-preserved
+loop-high-preserved c =
+    let s = c.args.text.now in
+    let i = c.loop-high.high-index in
+    let p = c.as_chunks.ensures in
+    let h : i < length s / 2 = omega (arith, p.front_len, c.loop-high-test.true) in
+    pairs-turn s i (c.nibble_of.ensures.value ∙ ap nibble (digit-of-pair s (length s / 2) i 0 p.front h (omega arith) ∙ ap (λ n. get_or s n 0) (omega arith)))
+    (c.nibble_of-in-loop-high.ensures.value ∙ ap nibble (digit-of-pair s (length s / 2) i 1 p.front h (omega arith)))
+    c.loop-high.invariant c.push-len.ensures
 
 pub returns : goal.returns
 unfolding unhexed
-returns c =
-    let s = c.args in
-    laws.filled (laws.text c.loop-i.invariant.1 (ap (λ (k : ℕ). pairs k s.text.now) (omega arith)))
+returns c = filled (text c.loop-high.invariant (ap (λ n. pairs n c.args.text.now) (omega (arith, c.as_chunks.ensures.front_len))))

@@ -7,21 +7,11 @@ use lib.Dec.{eqb}
 use lib.ListN.{drop}
 use Rattle.console.specs.Each.{all}
 use Rattle.dialogue.specs.Outbox.{padded}
-use borrow.Author.Rules.{rules}
 use Rattle.dialogue.proofs.record.is_padded.Goals as goal
-
-pub number_at-size-requires : goal.number_at-size-requires
-number_at-size-requires c = search rules
 
 pub overflow_add-size : goal.overflow_add-size
 overflow_add-size c =
     omega arith
-
-pub tail-requires : goal.tail-requires
-tail-requires c = search rules
-
-pub is_all-requires : goal.is_all-requires
-is_all-requires c = search rules
 
 pub returns : goal.returns
 unfolding padded

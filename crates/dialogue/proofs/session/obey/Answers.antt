@@ -1,22 +1,9 @@
--- `obey` meets its contract: by whether an engine has begun.
-use Rattle.dialogue.proofs.Calling.{begun-as}
-use borrow.Author.Rules.{rules}
+-- `obey` meets its contract: nothing was read, or a line before an accepted `new`, or after it.
+use Rattle.std.proofs.Common.{refl, length}
+use Rattle.dialogue.proofs.Calling.{unheard-nothing}
 use Rattle.dialogue.proofs.session.obey.Goals as goal
 
-pub obey_next-requires : goal.obey_next-requires
-obey_next-requires c = search rules
-
-pub shape_of-outbox-then-begun : goal.shape_of-outbox-then-begun
-shape_of-outbox-then-begun c = search rules
-
-pub returns-then-begun : goal.returns-then-begun
-returns-then-begun c =
-    begun-as c.if-begun.true c.obey_next.ensures
-
-pub obey_first-requires : goal.obey_first-requires
-obey_first-requires c = search rules
-
-pub returns : goal.returns
-returns c =
-    let a = c.args in
-    begun-as c.if-begun.false (c.obey_first.ensures a.links.now a.searches.now a.texts.now a.line.now a.outbox.now)
+pub returns-in_default : goal.returns-in_default
+returns-in_default c =
+    rw c.in_default.is (unheard-nothing c.args.line.now (length c.args.outbox.now) c.args.begun
+    (record { engine = refl; still = c.unheard.ensures.0; unheard = c.unheard.ensures.1; kept = refl }))

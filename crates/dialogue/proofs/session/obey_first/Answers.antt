@@ -1,29 +1,17 @@
--- `obey_first` meets its contract: `new` begins, and no other command is heard.
-use mathlib.Core.Path.{refl}
-use lib.ListN.{length}
+-- `obey_first` meets its contract: `new`, or any other line.
+use Rattle.std.proofs.Common.{refl, length}
 use Rattle.dialogue.specs.Asking.{asked}
-use Rattle.dialogue.proofs.Calling.{obeyed}
-use Rattle.dialogue.proofs.Commands.{no_begin, first-unheard}
-use borrow.Author.Rules.{rules}
+use Rattle.dialogue.proofs.Calling.{unheard-first}
 use Rattle.dialogue.proofs.session.obey_first.Goals as goal
-
-pub enum_known-command : goal.enum_known-command
-enum_known-command c = search rules
-
-pub unheard-requires : goal.unheard-requires
-unheard-requires c = search rules
 
 pub returns-in_default : goal.returns-in_default
 returns-in_default c =
-    λ links searches texts line outbox. first-unheard line (length outbox) c.args.command (no_begin c.args.command c.in_default.not-New)
-    (record { engine = refl; still = c.unheard.ensures.0; heard = c.unheard.ensures.1; kept = refl })
-
-pub begin-requires : goal.begin-requires
-begin-requires c = search rules
+    λ line outbox. unheard-first line (length outbox) c.args.command c.in_default.not-New
+    (record { engine = refl; still = c.unheard.ensures.0; unheard = c.unheard.ensures.1; kept = refl })
 
 pub returns : goal.returns
 unfolding asked
 returns c =
-    λ links searches texts line outbox.
-    let b = c.begin.ensures links searches texts in
-    obeyed line (length outbox) c.in-New.is refl (record { begins = b.begins; begun = b.begun; heard = b.heard; kept = refl })
+    λ line outbox.
+    let b = c.begin.ensures in
+    rw c.in-New.is (record { outcome = record { answer = b.answer; heard = b.heard; begins = b.begins; begun = b.begun; kept = refl } })

@@ -1,36 +1,32 @@
 -- `calls::byebye_if` meets its contract: nothing goes out for a name that is not held.
 use mathlib.Core.Path.{◌∙◌, ap, sym}
-use mathlib.Core.List.{List}
+use mathlib.Core.Bool.{cond}
+use mathlib.Core.List.{List, []}
 use Prim.Native.Nat.{ℕ}
-use Rattle.engine.specs.Arrays.{entry_at}
-use Rattle.engine.specs.Records.{byebye_on}
-use borrow.Author.Rules.{rules}
-use Rattle.engine.proofs.Answering as answering
-use Rattle.engine.proofs.Sending.{room_as}
+use Rattle.engine.specs.Arrays.{entry_at, links_in}
+use Rattle.std.proofs.Common.{Result}
+use Rattle.std.specs.Result.{is_ok}
+use Rattle.engine.specs.Spot.{place}
+use Rattle.engine.specs.Links.{up_addresses}
+use Rattle.engine.specs.Row.{entry}
+use Rattle.engine.specs.Records.{Record, byebye_on}
+use Rattle.engine.proofs.Sending as sending
 use Rattle.engine.proofs.calls.byebye_if.Goals as goal
 
-pub of_up_links-up-requires : goal.of_up_links-up-requires
-of_up_links-up-requires c = search rules
+-- the byebyes of a name, by where it stands
+abbrev byebyes : List ℕ → List ℕ → List ℕ → Result ℕ ℕ → List Record
+byebyes up numbers texts spot = cond (is_ok spot) (byebye_on up (entry_at (place spot) numbers texts)) []
 
-pub send_byebye-requires : goal.send_byebye-requires
-send_byebye-requires c =
-    let a = c.args in (
-      c.requires.2 c.if-spot.true,
-      c.requires.1,
-      room_as a.outbox.now 0
-          (answering.chosen _ c.if-spot.true
-          ∙ ap (λ (l : List ℕ). byebye_on l (entry_at a.spot.at a.numbers.now a.texts.now)) (sym c.of_up_links-up.ensures.held))
-          c.requires.3,
-    )
-
-pub shape_of-outbox-then-spot : goal.shape_of-outbox-then-spot
-shape_of-outbox-then-spot c = search rules
-
-pub returns-then-spot : goal.returns-then-spot
-returns-then-spot c =
+pub returns-in_default : goal.returns-in_default
+returns-in_default c =
     let a = c.args in
-    answering.sent-as c.send_byebye.ensures
-    (ap (λ (l : List ℕ). byebye_on l (entry_at a.spot.at a.numbers.now a.texts.now)) c.of_up_links-up.ensures.held ∙ sym (answering.chosen _ c.if-spot.true))
+    sending.sent-as (sending.sent-nothing _) (ap (byebyes (up_addresses (links_in a.head.now a.links.now)) a.numbers.now a.texts.now) (sym c.in_default.is))
 
 pub returns : goal.returns
-returns c = answering.sent-as (answering.sent-nothing _) (sym (answering.not_chosen _ c.if-spot.false))
+returns c =
+    let a = c.args in
+    let up = up_addresses (links_in a.head.now a.links.now) in
+    sending.sent-as c.send_byebye.ensures
+    (ap (λ (l : List ℕ). byebye_on l (entry c.active_at.result)) (c.deref.ensures.0 ∙ c.of_up_links-up.ensures)
+    ∙ ap (byebye_on up) c.active_at.ensures
+    ∙ ap (byebyes up a.numbers.now a.texts.now) (sym c.in-Ok.is))

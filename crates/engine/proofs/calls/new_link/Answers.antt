@@ -10,43 +10,41 @@ use Rattle.engine.specs.Calls.{NewLink, acts}
 use Rattle.engine.specs.Engine.{names_of, notifies, refusal_of}
 use Rattle.engine.specs.Links.{context_after}
 use Rattle.engine.specs.Records.{address_records, all_from, flat, records, turns_up}
-use Rattle.engine.specs.Refusals.{outbox_short, links_full, checks}
+use Rattle.engine.specs.Refusals.{refused_as, outbox_short, links_full, checks}
 use Rattle.engine.specs.Replies.{results}
-use borrow.Author.Rules.{rules}
 use lib.Dec.{ltb}
-use lib.ListN.{length, take}
+use lib.ListN.{length}
 use native.Mathlib.Omega.{arith}
-use Rattle.engine.proofs.Answering as answering
+use Rattle.engine.proofs.Sending as sending
 use Rattle.engine.proofs.Lending as lending
 use Rattle.engine.proofs.calls.new_link.Goals as goal
 
-pub lookup-held-requires : goal.lookup-held-requires
-lookup-held-requires c = search rules
-
-pub is_multicast-multicast-requires : goal.is_multicast-multicast-requires
-is_multicast-multicast-requires c = search rules
-
-pub count_of-count-requires : goal.count_of-count-requires
-count_of-count-requires c = search rules
-
-pub of_new_link-requires : goal.of_new_link-requires
-of_new_link-requires c = search rules
-
-pub of_new_link-number-requires : goal.of_new_link-number-requires
-of_new_link-number-requires c = search rules
-
-pub refused-requires : goal.refused-requires
-refused-requires c = search rules
-
-pub returns-then-number-ne0 : goal.returns-then-number-ne0
+pub returns-in-Err : goal.returns-in-Err
 unfolding refusal_of names_of held
-returns-then-number-ne0 c =
+returns-in-Err c =
     let a = c.args in
     let short = ap (ltb (length a.outbox.now)) (sym (c.of_new_link.ensures a.numbers.now a.texts.now a.outcome (length a.outbox.now))) in
-    lending.refused-answers (engine a.head.now a.links.now a.searches.now a.numbers.now a.texts.now) (NewLink a.index a.flags a.outcome (length a.outbox.now)) _ _ c.of_new_link-number.result (sym (c.of_new_link-number.ensures _ _ _ a.flags (sym c.is_multicast-multicast.ensures) (sym c.lookup-held.ensures.known) (lending.links-length a.head.now a.links.now ∙ sym c.count_of-count.ensures) short)) c.if-number-ne0.true (c.refused.ensures _ _ _)
+    lending.refused-for (engine a.head.now a.links.now a.searches.now a.numbers.now a.texts.now) (NewLink a.index a.flags a.outcome (length a.outbox.now)) _ _ c.number.result c.in-Err.refusal (c.of_new_link-2.ensures _ _ _ a.flags (sym c.is_multicast-multicast.ensures) (sym (c.is_some.ensures ∙ c.lookup-held.ensures.known)) (lending.links-length a.head.now a.links.now ∙ sym c.count_of-count.ensures) short) c.in-Err.is c.number.ensures (c.refused.ensures _ _ _)
 
-pub turns_up-turns-requires : goal.turns_up-turns-requires
-turns_up-turns-requires c = search rules
+pub returns : goal.returns
+unfolding refusal_of names_of held context_after acts results records notifies checks address_records
+returns c =
+    let a = c.args in
+    let short = ap (ltb (length a.outbox.now)) (sym (c.of_new_link.ensures a.numbers.now a.texts.now a.outcome (length a.outbox.now))) in
+    let size : length a.head.now ≡ head_places = omega arith in
+    let t = engine a.head.now a.links.now a.searches.now a.numbers.now a.texts.now in
+    let call = NewLink a.index a.flags a.outcome (length a.outbox.now) in
+    let number = sym (c.of_new_link-2.ensures _ _ _ a.flags (sym c.is_multicast-multicast.ensures) (sym (c.is_some.ensures ∙ c.lookup-held.ensures.known)) (lending.links-length a.head.now a.links.now ∙ sym c.count_of-count.ensures) short) ∙ ap refused_as c.in_default.is in
+    let p = cleared (held t).context (names_of (held t).advertisements) call number in
+    let links = links_in a.head.now a.links.now in
+    let sends = flat (all_from (searches_in a.head.now a.searches.now) (names_in a.head.now a.numbers.now a.texts.now)) in
+    lending.done-answers t _ call c.send_if_up-k.result _ _ number
+    (lending.links-changed a.head.now a.links.now a.searches.now a.numbers.now a.texts.now size c.link_stored-n.result _ c.set_count.ensures (c.link_stored-n.ensures c.lookup-held.ensures (p links_full)))
+    c.nothing.ensures.0 c.nothing.ensures.1
+    (sending.sent-as c.send_if_up-k.ensures
+    (ap (λ (b : Bool). cond b (sends c.addresses_of.result.now) []) (c.turns_up-turns.ensures a.index links c.lookup-held.ensures)
+    ∙ ap (λ (l : List ℕ). cond (turns_up a.index a.flags links) (sends l) []) (c.addresses_of.ensures a.index links c.lookup-held.ensures)))
+    (c.accepted.ensures _ _ _)
 
 pub send_if_up-k-requires : goal.send_if_up-k-requires
 unfolding checks names_of held records address_records
@@ -55,47 +53,12 @@ send_if_up-k-requires c =
     let short = ap (ltb (length a.outbox.now)) (sym (c.of_new_link.ensures a.numbers.now a.texts.now a.outcome (length a.outbox.now))) in
     let t = engine a.head.now a.links.now a.searches.now a.numbers.now a.texts.now in
     let call = NewLink a.index a.flags a.outcome (length a.outbox.now) in
-    let p = cleared (held t).context (names_of (held t).advertisements) call (sym (c.of_new_link-number.ensures _ _ _ a.flags (sym c.is_multicast-multicast.ensures) (sym c.lookup-held.ensures.known) (lending.links-length a.head.now a.links.now ∙ sym c.count_of-count.ensures) short) ∙ c.if-number-ne0.false) in
+    let p = cleared (held t).context (names_of (held t).advertisements) call (sym (c.of_new_link-2.ensures _ _ _ a.flags (sym c.is_multicast-multicast.ensures) (sym (c.is_some.ensures ∙ c.lookup-held.ensures.known)) (lending.links-length a.head.now a.links.now ∙ sym c.count_of-count.ensures) short) ∙ ap refused_as c.in_default.is) in
     let links = links_in a.head.now a.links.now in
     let sends = flat (all_from (searches_in a.head.now a.searches.now) (names_in a.head.now a.numbers.now a.texts.now)) in
     let room =
     enough t call a.outbox.now (p outbox_short)
-    (ap (λ (b : Bool). cond b (sends (take c.lookup-held.result.link.count c.lookup-held.result.link.addresses)) []) (c.turns_up-turns.ensures a.index links c.lookup-held.ensures)
-    ∙ ap (λ (l : List ℕ). cond (turns_up a.index a.flags links) (sends l) []) c.lookup-held.ensures.addresses)
+    (ap (λ (b : Bool). cond b (sends c.addresses_of.result.now) []) (c.turns_up-turns.ensures a.index links c.lookup-held.ensures)
+    ∙ ap (λ (l : List ℕ). cond (turns_up a.index a.flags links) (sends l) []) (c.addresses_of.ensures a.index links c.lookup-held.ensures))
     in
-    ((omega (arith, c.send_if_up-arg-3-1.given), omega (arith, c.send_if_up-arg-4-1.given)), (omega (arith, c.send_if_up-arg-5-1.given), omega (arith, c.send_if_up-arg-6-1.given)), room)
-
-pub link_stored-n-requires : goal.link_stored-n-requires
-link_stored-n-requires c = search rules
-
-pub set_count-requires : goal.set_count-requires
-set_count-requires c = search rules
-
-pub nothing-requires : goal.nothing-requires
-nothing-requires c = search rules
-
-pub accepted-requires : goal.accepted-requires
-accepted-requires c = search rules
-
-pub shape_of-outbox : goal.shape_of-outbox
-shape_of-outbox c = search rules
-
-pub returns : goal.returns
-unfolding refusal_of names_of held context_after acts results records notifies checks address_records
-returns c =
-    let a = c.args in
-    let short = ap (ltb (length a.outbox.now)) (sym (c.of_new_link.ensures a.numbers.now a.texts.now a.outcome (length a.outbox.now))) in
-    let size : length a.head.now ≡ head_places = omega (arith, c.lookup-arg-2-1.given) in
-    let t = engine a.head.now a.links.now a.searches.now a.numbers.now a.texts.now in
-    let call = NewLink a.index a.flags a.outcome (length a.outbox.now) in
-    let number = sym (c.of_new_link-number.ensures _ _ _ a.flags (sym c.is_multicast-multicast.ensures) (sym c.lookup-held.ensures.known) (lending.links-length a.head.now a.links.now ∙ sym c.count_of-count.ensures) short) ∙ c.if-number-ne0.false in
-    let p = cleared (held t).context (names_of (held t).advertisements) call number in
-    let links = links_in a.head.now a.links.now in
-    let sends = flat (all_from (searches_in a.head.now a.searches.now) (names_in a.head.now a.numbers.now a.texts.now)) in
-    lending.done-answers t _ call c.send_if_up-k.result _ _ number
-    (lending.links-changed a.head.now a.links.now a.searches.now a.numbers.now a.texts.now size c.link_stored-n.result _ c.set_count.ensures (c.link_stored-n.ensures a.index c.lookup-held.ensures (p links_full)))
-    c.nothing.ensures.0 c.nothing.ensures.1
-    (answering.sent-as c.send_if_up-k.ensures
-    (ap (λ (b : Bool). cond b (sends (take c.lookup-held.result.link.count c.lookup-held.result.link.addresses)) []) (c.turns_up-turns.ensures a.index links c.lookup-held.ensures)
-    ∙ ap (λ (l : List ℕ). cond (turns_up a.index a.flags links) (sends l) []) c.lookup-held.ensures.addresses))
-    (c.accepted.ensures _ _ _)
+    room

@@ -12,26 +12,10 @@ use Rattle.engine.specs.Records.{records}
 use Rattle.engine.specs.Replies.{results}
 use Rattle.engine.specs.Outcomes.{notifies_mask}
 use Rattle.message.specs.Parse.{field_at}
-use borrow.Author.Rules.{rules}
 use Rattle.engine.proofs.Answering as answering
 use Rattle.engine.proofs.Hearing as hearing
 use Rattle.engine.proofs.Lending as lending
 use Rattle.engine.proofs.calls.on_notice.Goals as goal
-
-pub type_of-requires : goal.type_of-requires
-type_of-requires c = search rules
-
-pub field-requires : goal.field-requires
-field-requires c = search rules
-
-pub told_of-told-requires : goal.told_of-told-requires
-told_of-told-requires c = search rules
-
-pub notifying-requires : goal.notifying-requires
-notifying-requires c = search rules
-
-pub accepted-requires : goal.accepted-requires
-accepted-requires c = search rules
 
 pub returns : goal.returns
 unfolding refusal_of held context_after acts results records notifies
@@ -40,7 +24,7 @@ returns c links texts time receiver sender early =
     let head = a.head.now in
     let names = names_in head a.numbers.now texts in
     let subs = searches_in head a.searches.now in
-    let m = subst (hearing.Noticed a.datagram.now (type_of a.said)) (sym c.requires.2) (hearing.notice_read a.datagram.now a.said c.requires.3) in
+    let m = subst (hearing.Noticed a.datagram.now (type_of a.said)) (sym c.requires.0) (hearing.notice_read a.datagram.now a.said c.requires.1) in
     let none = sym (m.asking time sender receiver) in
     lending.done-answers (engine a.head.now links a.searches.now a.numbers.now texts) (engine a.head.now links a.searches.now a.numbers.now texts) (Datagram time sender receiver a.datagram.now) 0 _ _ (hearing.notice_refusal _ _ time sender receiver a.datagram.now (type_of a.said) early m)
     (ap (λ (l : List Act). holding (seed_in head) (timer_in head) (links_in head links) subs (results (seed_in head) names l).advertisements) none)

@@ -8,12 +8,11 @@ use Rattle.engine.specs.Engine.{names_of, notifies, notifies_of, refusal_of}
 use Rattle.engine.specs.Held.{Advertisement, Text, holding}
 use Rattle.engine.specs.Links.{context_after}
 use Rattle.engine.specs.Records.{records}
-use Rattle.engine.specs.Refusals.{checks, search_checks}
+use Rattle.engine.specs.Refusals.{refused_as, checks, search_checks}
 use Rattle.engine.specs.Replies.{result, results}
 use Rattle.engine.specs.Outcomes.{asks}
 use Rattle.message.specs.Build.{type_max}
 use Rattle.message.specs.Parse.{ParseAnswer, field_at, parsed}
-use borrow.Author.Rules.{rules}
 use borrow.Author.Tests.{ltb-false}
 use lib.ListN.{length}
 use native.Mathlib.Omega.{arith}
@@ -21,49 +20,11 @@ use Rattle.engine.proofs.Answering as answering
 use Rattle.engine.proofs.Lending as lending
 use Rattle.engine.proofs.calls.on_search.Goals as goal
 
-pub field-target-requires : goal.field-target-requires
-field-target-requires c = search rules
-
-pub of_search-number-requires : goal.of_search-number-requires
-of_search-number-requires c = search rules
-
-pub refused-requires : goal.refused-requires
-refused-requires c = search rules
-
-pub shape_of-numbers-then-number-ne0 : goal.shape_of-numbers-then-number-ne0
-shape_of-numbers-then-number-ne0 c = search rules
-
-pub returns-then-number-ne0 : goal.returns-then-number-ne0
+pub returns-in-Err : goal.returns-in-Err
 unfolding refusal_of
-returns-then-number-ne0 c links searches =
+returns-in-Err c links searches =
     let a = c.args in
-    lending.refused-answers (engine a.head.now links searches a.numbers.now a.texts.now) (Datagram a.time a.sender a.receiver a.datagram.now) [] _ c.of_search-number.result (sym (c.of_search-number.ensures _ _ a.sender a.receiver a.datagram.now a.place c.requires.3 (sym (ap length c.field-target.ensures)))) c.if-number-ne0.true (c.refused.ensures links searches _)
-
-pub seed_in-requires : goal.seed_in-requires
-seed_in-requires c = search rules
-
-pub searched-asked-requires : goal.searched-asked-requires
-unfolding checks
-searched-asked-requires c =
-    let a = c.args in
-    let t = engine a.head.now [] [] a.numbers.now a.texts.now in
-    let call = Datagram a.time a.sender a.receiver a.datagram.now in
-    let p = passed (held t).context (names_of (held t).advertisements) call (sym (c.of_search-number.ensures _ _ a.sender a.receiver a.datagram.now a.place c.requires.3 (sym (ap length c.field-target.ensures))) ∙ c.if-number-ne0.false) in
-    let q = subst (λ (p : ParseAnswer). Passed (search_checks a.datagram.now p.message)) c.requires.3 p.1.1 in
-    (c.requires.0, c.requires.1, omega (arith, ltb-false type_max (length (field_at a.datagram.now a.place)) q.1.0, ap length c.field-target.ensures), c.requires.2)
-
-pub asking-requires : goal.asking-requires
-asking-requires c = search rules
-
-pub accepted-requires : goal.accepted-requires
-accepted-requires c =
-    (c.requires.0, c.searched-asked.auto.numbers ∙ c.requires.1.0)
-
-pub shape_of-numbers : goal.shape_of-numbers
-shape_of-numbers c = search rules
-
-pub shape_of-texts : goal.shape_of-texts
-shape_of-texts c = search rules
+    lending.refused-for (engine a.head.now links searches a.numbers.now a.texts.now) (Datagram a.time a.sender a.receiver a.datagram.now) [] _ c.number.result c.in-Err.refusal (c.of_search.ensures _ _ a.sender a.receiver a.datagram.now a.place c.requires.1 (sym (ap length c.field-target.ensures))) c.in-Err.is c.number.ensures (c.refused.ensures links searches _)
 
 pub returns : goal.returns
 unfolding refusal_of held context_after acts result results records notifies
@@ -75,16 +36,26 @@ returns c links searches =
     let query : Text → Query = λ t. record { target = t; mx = a.mx; sender = a.sender; receiver = a.receiver; time = a.time } in
     let q = query (field_at a.datagram.now a.place) in
     let does : asked_by_lem a.time a.sender a.receiver a.datagram.now (parsed a.datagram.now).message ≡ Asks q ∷ [] =
-    ap (λ (p : ParseAnswer). asked_by_lem a.time a.sender a.receiver a.datagram.now p.message) c.requires.3
+    ap (λ (p : ParseAnswer). asked_by_lem a.time a.sender a.receiver a.datagram.now p.message) c.requires.1
     in
     let at = c.seed_in.ensures in
     let f = c.field-target.ensures in
     let r = c.searched-asked.ensures in
-    lending.done-answers (engine a.head.now links searches a.numbers.now a.texts.now) _ (Datagram a.time a.sender a.receiver a.datagram.now) 0 _ _ (sym (c.of_search-number.ensures _ _ a.sender a.receiver a.datagram.now a.place c.requires.3 (sym (ap length c.field-target.ensures))) ∙ c.if-number-ne0.false)
+    lending.done-answers (engine a.head.now links searches a.numbers.now a.texts.now) _ (Datagram a.time a.sender a.receiver a.datagram.now) 0 _ _ (sym (c.of_search.ensures _ _ a.sender a.receiver a.datagram.now a.place c.requires.1 (sym (ap length c.field-target.ensures))) ∙ ap refused_as c.in_default.is)
     (ap (λ (l : List Advertisement). holding seed (timer_in head) (links_in head links) (searches_in head searches) l)
     (r.table ∙ (λ i. (result (at i) names (Asks (query (f i)))).advertisements) ∙ ap (λ (l : List Act). (results seed names l).advertisements) (sym does)))
     (c.asking.ensures.0 ∙ (λ i. asks (r.matched i) (r.joined i))
     ∙ (λ i. asks (result (at i) names (Asks (query (f i)))).counts.matched (result (at i) names (Asks (query (f i)))).counts.joined)
     ∙ sym (answering.plus-zeros (result seed names (Asks q)).counts) ∙ ap (λ (l : List Act). (results seed names l).counts) (sym does))
-    (c.asking.ensures.1 ∙ sym (ap (λ (p : ParseAnswer). notifies_of (searches_in head searches) a.datagram.now p.message) c.requires.3))
+    (c.asking.ensures.1 ∙ sym (ap (λ (p : ParseAnswer). notifies_of (searches_in head searches) a.datagram.now p.message) c.requires.1))
     answering.sent-none (c.accepted.ensures links searches _)
+
+pub searched-asked-requires : goal.searched-asked-requires
+unfolding checks
+searched-asked-requires c =
+    let a = c.args in
+    let t = engine a.head.now [] [] a.numbers.now a.texts.now in
+    let call = Datagram a.time a.sender a.receiver a.datagram.now in
+    let p = passed (held t).context (names_of (held t).advertisements) call (sym (c.of_search.ensures _ _ a.sender a.receiver a.datagram.now a.place c.requires.1 (sym (ap length c.field-target.ensures))) ∙ ap refused_as c.in_default.is) in
+    let q = subst (λ (p : ParseAnswer). Passed (search_checks a.datagram.now p.message)) c.requires.1 p.1.1 in
+    (omega (arith, ltb-false type_max (length (field_at a.datagram.now a.place)) q.1.0, ap length c.field-target.ensures), c.requires.0)

@@ -1,10 +1,8 @@
 -- The accepted part of `calls::serve_due`: the refresh records and the due replies sent, the replies ended and the timer rolled.
 use mathlib.Core.Path.{◌∙◌, ◌≡◌, ap, sym}
 use mathlib.Core.List.{List}
-use Prim.Native.Nat.{◌≤◌}
 use Rattle.engine.proofs.Bound.{enough}
 use Rattle.engine.proofs.Accepted.{cleared}
-use Rattle.engine.proofs.Timer.{timer-accepted}
 use Rattle.engine.specs.Arrays.{head_places, held, links_in, names_in, searches_in, seed_in, engine, timer_in}
 use Rattle.engine.specs.Calls.{Timeout, acts}
 use Rattle.engine.specs.Engine.{names_of, notifies, refusal_of}
@@ -17,20 +15,37 @@ use Rattle.engine.specs.Replies.{alone_at, group_at, result, results, sum_of}
 use Rattle.engine.specs.Sizes.{time_max}
 use Rattle.engine.specs.Outcomes.{sends}
 use Rattle.engine.specs.declared.refresh_timer.RefreshTimer.{RefreshTimer}
-use borrow.Author.Rules.{rules}
 use borrow.Author.Tests.{ltb-false}
 use lib.Dec.{leb}
 use lib.ListN.{length}
+use Prim.Native.Nat.{◌≤◌}
 use native.Mathlib.Omega.{arith}
+use Rattle.engine.proofs.Timer.{in_time}
 use Rattle.engine.proofs.Answering as answering
+use Rattle.engine.proofs.Sending as sending
 use Rattle.engine.proofs.Lending as lending
 use Rattle.engine.proofs.calls.serve_due.Goals as goal
 
-pub of_up_links-up-requires : goal.of_up_links-up-requires
-of_up_links-up-requires c = search rules
-
-pub timer_in-timer-requires : goal.timer_in-timer-requires
-timer_in-timer-requires c = search rules
+pub returns : goal.returns
+unfolding refusal_of names_of held context_after acts results records notifies result checks refresh_records
+returns c =
+    let a = c.args in
+    let size : length a.head.now ≡ head_places = omega arith in
+    let t = engine a.head.now a.links.now a.searches.now a.numbers.now a.texts.now in
+    let call = Timeout a.time (length a.outbox.now) in
+    let p = cleared (held t).context (names_of (held t).advertisements) call c.requires in
+    let head = a.head.now in
+    let names = names_in head a.numbers.now a.texts.now in
+    let borne : a.time ≤ time_max = omega (arith, ltb-false time_max a.time (p time_late)) in
+    let timer : c.rolled.result ≡ timer_step (timer_in head) a.time = c.rolled.ensures ∙ in_time c.timer_in-timer.result a.time borne ∙ ap (λ (x : RefreshTimer). timer_step x a.time) c.timer_in-timer.ensures in
+    let served = c.serve_all-served.ensures a.texts.now in
+    lending.done-answers t _ call c.send_timeout-k.result _ _ c.requires
+    (lending.timer-changed head a.links.now a.searches.now _ a.texts.now size c.rolled.result (timer_step (timer_in head) a.time) c.set_timer.ensures timer (lending.step_keeps head a.time)
+    ∙ ap (λ (l : List Advertisement). holding (seed_in head) (timer_step (timer_in head) a.time) (links_in head a.links.now) (searches_in head a.searches.now) l) served.table)
+    (c.sending.ensures.0 ∙ (λ i. sends (served.first i) (served.second i)) ∙ sym (answering.plus-zeros (sends (sum_of (alone_at a.time) names) (sum_of (group_at a.time) names)))) c.sending.ensures.1
+    (sending.sent-as c.send_timeout-k.ensures
+    (λ i. timeout_on ((c.deref.ensures.0 ∙ c.of_up_links-up.ensures) i) (leb (c.timer_in-timer.ensures i).next_salvo a.time) a.time (searches_in head a.searches.now) names))
+    (c.accepted.ensures _ _ _)
 
 pub send_timeout-k-requires : goal.send_timeout-k-requires
 unfolding refusal_of checks names_of held records refresh_records
@@ -39,50 +54,9 @@ send_timeout-k-requires c =
     let t = engine a.head.now a.links.now a.searches.now a.numbers.now a.texts.now in
     let call = Timeout a.time (length a.outbox.now) in
     let p = cleared (held t).context (names_of (held t).advertisements) call c.requires in
-    let up = c.of_up_links-up.ensures.held in
+    let up = (c.deref.ensures.0 ∙ c.of_up_links-up.ensures) in
     let room =
     enough t call a.outbox.now (p outbox_short)
     (λ i. timeout_on (up i) (leb (c.timer_in-timer.ensures i).next_salvo a.time) a.time (searches_in a.head.now a.searches.now) (names_in a.head.now a.numbers.now a.texts.now))
-    in (
-      (omega (arith, c.send_timeout-arg-3-1.given), omega (arith, c.send_timeout-arg-4-1.given)),
-      (omega (arith, c.send_timeout-arg-6-1.given), omega (arith, c.send_timeout-arg-7-1.given)),
-      room,
-    )
-
-pub serve_all-served-requires : goal.serve_all-served-requires
-serve_all-served-requires c = search rules
-
-pub rolled-requires : goal.rolled-requires
-rolled-requires c = search rules
-
-pub set_timer-requires : goal.set_timer-requires
-set_timer-requires c = search rules
-
-pub sending-requires : goal.sending-requires
-sending-requires c = search rules
-
-pub accepted-requires : goal.accepted-requires
-accepted-requires c = search rules
-
-pub returns : goal.returns
-unfolding refusal_of names_of held context_after acts results records notifies result checks refresh_records
-returns c =
-    let a = c.args in
-    let size : length a.head.now ≡ head_places = omega (arith, c.timer_in-arg-2-1.given) in
-    let t = engine a.head.now a.links.now a.searches.now a.numbers.now a.texts.now in
-    let call = Timeout a.time (length a.outbox.now) in
-    let p = cleared (held t).context (names_of (held t).advertisements) call c.requires in
-    let head = a.head.now in
-    let names = names_in head a.numbers.now a.texts.now in
-    let time : a.time ≤ time_max = omega (arith, ltb-false time_max a.time (p time_late)) in
-    let timer : c.rolled.result ≡ timer_step (timer_in head) a.time =
-    c.rolled.ensures ∙ timer-accepted a.time c.timer_in-timer.result (timer_step c.timer_in-timer.result a.time) time ∙ ap (λ (x : RefreshTimer). timer_step x a.time) c.timer_in-timer.ensures
     in
-    let served = c.serve_all-served.ensures a.texts.now in
-    lending.done-answers t _ call c.send_timeout-k.result _ _ c.requires
-    (lending.timer-changed head a.links.now a.searches.now _ a.texts.now size c.rolled.result (timer_step (timer_in head) a.time) c.set_timer.ensures timer (lending.step_keeps head a.time)
-    ∙ ap (λ (l : List Advertisement). holding (seed_in head) (timer_step (timer_in head) a.time) (links_in head a.links.now) (searches_in head a.searches.now) l) served.table)
-    (c.sending.ensures.0 ∙ (λ i. sends (served.first i) (served.second i)) ∙ sym (answering.plus-zeros (sends (sum_of (alone_at a.time) names) (sum_of (group_at a.time) names)))) c.sending.ensures.1
-    (answering.sent-as c.send_timeout-k.ensures
-    (λ i. timeout_on (c.of_up_links-up.ensures.held i) (leb (c.timer_in-timer.ensures i).next_salvo a.time) a.time (searches_in head a.searches.now) names))
-    (c.accepted.ensures _ _ _)
+    room

@@ -1,7 +1,11 @@
--- Each part of the link is read from its place.
-use Rattle.engine.proofs.LinkRows as links
+-- The parts of the row.
+use mathlib.Core.Bool.{not}
+use lib.Dec.{eqb}
+use lib.ListN.{get_or}
+use Rattle.engine.specs.Held.{link_of}
+use Rattle.engine.specs.Arrays.{link_in}
 use Rattle.engine.proofs.links.link_in.Goals as goal
 
 pub returns : goal.returns
-returns c =
-    links.link_read c.args.row.now _ c.requires c.low_32.ensures c.size_of.ensures c.addresses_in-addresses.ensures
+unfolding link_of link_in
+returns c = λ j. record { index = c.low_32.ensures j; up = not (eqb (get_or c.args.row.now 1 0) 0); addresses = c.addresses_in.ensures j }

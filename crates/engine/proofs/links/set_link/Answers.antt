@@ -1,31 +1,17 @@
--- Each part of the link is stored in its place.
-use mathlib.Core.Path.{◌∙◌}
-use lib.ListN.{length-set}
-use Rattle.engine.proofs.LinkRows as links
+-- The numbers of the row, and behind them the addresses one by one.
+use mathlib.Core.Path.{refl}
+use native.Mathlib.Omega.{arith}
 use borrow.Author.Rules.{rules}
+use Rattle.engine.proofs.LinkRows as links
 use Rattle.engine.proofs.links.set_link.Goals as goal
 
-pub overflow_cast-row : goal.overflow_cast-row
-overflow_cast-row c = search rules
-
-pub bounds-row-0 : goal.bounds-row-0
-bounds-row-0 c = search rules
-
-pub one_if-requires : goal.one_if-requires
-one_if-requires c = search rules
-
-pub bounds-row-1 : goal.bounds-row-1
-bounds-row-1 c = search rules
-
-pub number_of-requires : goal.number_of-requires
-number_of-requires c = search rules
-
-pub bounds-row-2 : goal.bounds-row-2
-bounds-row-2 c = search rules
-
-pub set_addresses-requires : goal.set_addresses-requires
-set_addresses-requires c = search rules
+pub loop-i-preserved : goal.loop-i-preserved
+loop-i-preserved c =
+    links.written-turn _ c.as_slice-addresses.result.now (omega (arith, c.as_slice-addresses.ensures.fits)) c.loop-i-test.true refl c.loop-i.invariant
 
 pub returns : goal.returns
 returns c =
-    links.link_written c.args.row.now c.set_addresses.new.row c.args.link c.requires (c.set_addresses.auto.row ∙ simp length-set c.requires) (search rules) c.one_if.ensures c.number_of.ensures c.set_addresses.ensures
+    let k = c.args.link.now in
+    let held = c.as_slice-addresses in
+    links.link_written c.loop-i.row held.result.now k c.loop-i.i held.ensures.value (omega (arith, held.ensures.fits)) (search rules)
+    (links.first-three c.args.row.now _ _ _ c.requires) (omega arith) c.loop-i.invariant

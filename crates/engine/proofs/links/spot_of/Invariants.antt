@@ -1,6 +1,5 @@
--- The links before the one looked at are all below the index. The measure is what is left of the count.
+-- The links before the one looked at are all below the index.
 use mathlib.Core.Path.{◌≡◌}
-use Prim.Native.Nat.{◌-◌, ◌≤◌}
 use lib.ListN.{drop}
 use Rattle.engine.specs.Held.{by_index}
 use Rattle.engine.specs.Arrays.{link_count, links_in}
@@ -8,7 +7,4 @@ use Rattle.engine.proofs.Tables as tables
 use Rattle.engine.proofs.links.spot_of.Given as goal
 
 abbrev pub invariant-loop-i : goal.invariant-loop-i
-invariant-loop-i l = (l.i ≤ l.n) × (l.n ≡ link_count l.head) × tables.Looking by_index l.index (links_in l.head l.links) l.i (drop l.i (links_in l.head l.links))
-
-abbrev pub decreases-loop-i : goal.decreases-loop-i
-decreases-loop-i l = l.n - l.i
+invariant-loop-i l = (l.n ≡ link_count l.head) × tables.Looking by_index l.index (links_in l.head l.links) l.i (drop l.i (links_in l.head l.links))

@@ -1,20 +1,7 @@
 -- The part that is lent is all that follows `start`.
 use native.Mathlib.Omega.{arith}
 use Rattle.engine.proofs.Rewriting.{host-from, host-inside}
-use borrow.Author.Rules.{rules}
 use Rattle.engine.proofs.location.host_end.Goals as goal
-
-pub slice_bounds-host_length-count : goal.slice_bounds-host_length-count
-slice_bounds-host_length-count c = search rules
-
-pub slice_bounds-host_length-start : goal.slice_bounds-host_length-start
-slice_bounds-host_length-start c = search rules
-
-pub slice_bounds-host_length-end : goal.slice_bounds-host_length-end
-slice_bounds-host_length-end c = search rules
-
-pub host_length-n-requires : goal.host_length-n-requires
-host_length-n-requires c = search rules
 
 pub overflow_add-result : goal.overflow_add-result
 overflow_add-result c = omega (arith, host-inside c.args.location.now c.args.start c.host_length-n.result c.requires c.host_length-n.ensures)

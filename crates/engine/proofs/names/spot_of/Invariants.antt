@@ -1,5 +1,5 @@
--- The names before the one looked at are all below the name. The measure is what is left of the count.
-use Prim.Native.Nat.{◌≤◌, ◌-◌}
+-- The names before the one looked at are all below the name.
+use Prim.Native.Nat.{◌≤◌}
 use lib.ListN.{drop}
 use Rattle.engine.specs.Sizes.{advertisements_max}
 use Rattle.engine.specs.Held.{advertised}
@@ -8,7 +8,4 @@ use Rattle.engine.proofs.Tables as tables
 use Rattle.engine.proofs.names.spot_of.Given as goal
 
 abbrev pub invariant-loop-i : goal.invariant-loop-i
-invariant-loop-i l = (l.i ≤ l.n) × (l.n ≤ advertisements_max) × tables.Looking advertised l.name (names_in l.head l.numbers l.texts) l.i (drop l.i (names_in l.head l.numbers l.texts))
-
-abbrev pub decreases-loop-i : goal.decreases-loop-i
-decreases-loop-i l = l.n - l.i
+invariant-loop-i l = (l.n ≤ advertisements_max) × tables.Looking advertised l.name (names_in l.head l.numbers l.texts) l.i (drop l.i (names_in l.head l.numbers l.texts))

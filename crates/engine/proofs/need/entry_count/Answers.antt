@@ -1,32 +1,16 @@
 -- One search where a subscription is for all, else one for each.
 use mathlib.Core.Path.{sym, ◌∙◌}
 use native.Mathlib.Omega.{arith}
-use borrow.Author.Rules.{rules}
 use Rattle.engine.specs.Arrays.{searches_in}
 use Rattle.engine.proofs.RecordCount.{searches-all, searches-each}
 use Rattle.engine.proofs.Lending.{searches-length}
 use Rattle.engine.proofs.need.entry_count.Goals as goal
-
-pub count_of-n-requires : goal.count_of-n-requires
-count_of-n-requires c = search rules
-
-pub any_all-requires : goal.any_all-requires
-any_all-requires c = search rules
-
-pub overflow_add-result : goal.overflow_add-result
-overflow_add-result c = search rules
 
 pub returns-then-any_all : goal.returns-then-any_all
 returns-then-any_all c =
     let a = c.args in
     let all = searches-all (searches_in a.head.now a.searches.now) (sym c.any_all.ensures ∙ c.if-any_all.true) in
     (omega (arith, all, c.count_of-n.ensures), omega (arith, c.count_of-n.ensures))
-
-pub count_of-requires : goal.count_of-requires
-count_of-requires c = search rules
-
-pub overflow_add-result-2 : goal.overflow_add-result-2
-overflow_add-result-2 c = search rules
 
 pub returns : goal.returns
 returns c =

@@ -1,17 +1,10 @@
 -- The bytes of a record for each address on an up link.
 use mathlib.Core.Path.{ap}
 use Prim.Native.Nat.{ℕ, ◌*◌}
-use borrow.Author.Rules.{rules}
 use Rattle.engine.specs.Sizes.{record_size}
 use Rattle.engine.specs.Need.{record_count, need}
 use Rattle.engine.specs.Arrays.{held}
 use Rattle.engine.proofs.need.of_announcement.Goals as goal
-
-pub up_count-requires : goal.up_count-requires
-up_count-requires c = search rules
-
-pub overflow_mul-result : goal.overflow_mul-result
-overflow_mul-result c = search rules
 
 pub returns : goal.returns
 unfolding need record_count held

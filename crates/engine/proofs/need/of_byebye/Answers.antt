@@ -3,7 +3,6 @@ use mathlib.Core.Path.{sym, ◌∙◌, ap}
 use mathlib.Core.Bool.{Bool, cond}
 use mathlib.Core.List.{[]}
 use Prim.Native.Nat.{◌*◌}
-use borrow.Author.Rules.{rules}
 use lib.ListN.{length}
 use Rattle.engine.specs.Sizes.{record_size}
 use Rattle.engine.specs.Links.{up_addresses}
@@ -11,9 +10,6 @@ use Rattle.engine.specs.Need.{record_count, need}
 use Rattle.engine.specs.Engine.{names_of}
 use Rattle.engine.specs.Arrays.{links_in, held}
 use Rattle.engine.proofs.need.of_byebye.Goals as goal
-
-pub of_announcement-requires : goal.of_announcement-requires
-of_announcement-requires c = search rules
 
 pub returns-then-is_held : goal.returns-then-is_held
 unfolding need record_count names_of held

@@ -1,30 +1,12 @@
 -- Advertisements plus searches, times addresses on up links.
 use mathlib.Core.Path.{sym, ◌∙◌, ap}
 use Prim.Native.Nat.{ℕ, ◌+◌, ◌*◌}
-use native.Mathlib.Nat.{mul-le-mul}
-use borrow.Author.Rules.{rules}
 use Rattle.engine.specs.Sizes.{record_size}
 use Rattle.engine.specs.Need.{searches_count, record_count, need}
 use Rattle.engine.specs.Engine.{names_of}
 use Rattle.engine.specs.Arrays.{searches_in, held}
 use Rattle.engine.proofs.NameRows.{names-length}
 use Rattle.engine.proofs.need.of_refresh.Goals as goal
-
-pub entry_count-n-requires : goal.entry_count-n-requires
-entry_count-n-requires c = search rules
-
-pub up_count-requires : goal.up_count-requires
-up_count-requires c = search rules
-
-pub overflow_mul-result : goal.overflow_mul-result
-overflow_mul-result c =
-    let most = mul-le-mul c.entry_count-n.ensures.1 c.up_count.ensures.1 in
-    search rules
-
-pub overflow_mul-result-2 : goal.overflow_mul-result-2
-overflow_mul-result-2 c =
-    let most = mul-le-mul c.entry_count-n.ensures.1 c.up_count.ensures.1 in
-    search rules
 
 pub returns : goal.returns
 unfolding need record_count names_of held

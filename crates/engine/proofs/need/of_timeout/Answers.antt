@@ -2,8 +2,6 @@
 use mathlib.Core.Path.{sym, ◌∙◌, ap}
 use mathlib.Core.Bool.{cond}
 use Prim.Native.Nat.{ℕ, ◌+◌, ◌*◌}
-use native.Mathlib.Nat.{mul-le-mul}
-use borrow.Author.Rules.{rules}
 use lib.Dec.{leb}
 use Rattle.engine.specs.Sizes.{record_size}
 use Rattle.engine.specs.Need.{searches_count, record_count, need}
@@ -11,40 +9,6 @@ use Rattle.engine.specs.Engine.{names_of}
 use Rattle.engine.specs.Arrays.{timer_in, searches_in, held}
 use Rattle.engine.proofs.NameRows.{names-length}
 use Rattle.engine.proofs.need.of_timeout.Goals as goal
-
-pub up_count-up-requires : goal.up_count-up-requires
-up_count-up-requires c = search rules
-
-pub salvo_count-salvo-requires : goal.salvo_count-salvo-requires
-salvo_count-salvo-requires c = search rules
-
-pub due_in-due-requires : goal.due_in-due-requires
-due_in-due-requires c = search rules
-
-pub overflow_add-result : goal.overflow_add-result
-overflow_add-result c =
-    let due = c.due_in-due.ensures in
-    let salvo = c.salvo_count-salvo.ensures in
-    search rules
-
-pub overflow_mul-result : goal.overflow_mul-result
-overflow_mul-result c =
-    let most = mul-le-mul c.due_in-due.ensures.2 c.up_count-up.ensures.1 in
-    search rules
-
-pub overflow_add-result-2 : goal.overflow_add-result-2
-overflow_add-result-2 c =
-    let due = c.due_in-due.ensures in
-    let salvo = c.salvo_count-salvo.ensures in
-    let most = mul-le-mul due.2 c.up_count-up.ensures.1 in
-    search rules
-
-pub overflow_mul-result-2 : goal.overflow_mul-result-2
-overflow_mul-result-2 c =
-    let due = c.due_in-due.ensures in
-    let salvo = c.salvo_count-salvo.ensures in
-    let most = mul-le-mul due.2 c.up_count-up.ensures.1 in
-    search rules
 
 pub returns : goal.returns
 unfolding need record_count names_of held

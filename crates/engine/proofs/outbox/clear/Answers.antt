@@ -1,46 +1,24 @@
-use mathlib.Core.Path.{refl}
-use Prim.Native.Nat.{ℕ}
-use native.Mathlib.Omega.{arith}
-use lib.ListN.{length-set, replicate, length-replicate}
-use lib.Seq.{paste-zero}
-use Rattle.text.proofs.Writing as put
-use Rattle.engine.proofs.OneRecord.{zero_turn}
+-- The zeros of `fill` stand in the place of as many bytes.
+use Rattle.std.proofs.Common.{◌≡◌, ℕ, ◌+◌, ◌-◌, List, ◌++◌, length, take, drop, ap, sym, ◌∙◌, arith, append_assoc, length-drop}
+use lib.ListN.{replicate, length-replicate}
+use lib.Seq.{length-take-le, drop-drop}
+use borrow.Rule.Slice.PartMut.{put_mid}
+use Rattle.text.specs.Put.{Put, overwritten}
 use Rattle.engine.proofs.outbox.clear.Goals as goal
 
-pub loop-i-init : goal.loop-i-init
-loop-i-init c = (omega arith, omega arith, refl, paste-zero c.args.buf.now c.args.at (replicate c.args.n 0))
-
-pub bounds-buf-next : goal.bounds-buf-next
-bounds-buf-next c = omega arith
-
-pub overflow_add-next : goal.overflow_add-next
-overflow_add-next c = omega arith
-
-pub overflow_add-i : goal.overflow_add-i
-overflow_add-i c = omega arith
-
-pub loop-i-smaller : goal.loop-i-smaller
-loop-i-smaller c = omega arith
-
-pub loop-i-preserved : goal.loop-i-preserved
-loop-i-preserved c =
-    let h = c.loop-i in
-    let s = c.args in (
-      omega arith,
-      omega arith,
-      simp length-set h.invariant.2,
-      zero_turn s.buf.now h.buf s.at s.n h.i h.next h.invariant.0 (omega arith) (omega arith) h.invariant.3,
-    )
-
-pub shape_of-buf : goal.shape_of-buf
-shape_of-buf c = c.loop-i.invariant.2
+cleared : (b ys : List ℕ) (at n k m : ℕ) → k ≡ n → m ≡ n → ys ≡ replicate m 0 → Put b at (replicate n 0) (put_mid at k b ys) (at + n)
+unfolding overwritten
+cleared b ys at n k m e f g = record {
+  place = ap (λ (x : ℕ). at + x) (sym (length-replicate n 0));
+  written =
+      ap (λ (x : ℕ). put_mid at x b ys) e ∙ ap (put_mid at n b) (g ∙ ap (λ (x : ℕ). replicate x 0) f)
+      ∙ sym (append_assoc (take at b) (replicate n 0) (drop n (drop at b)))
+      ∙ ap (λ (l : List ℕ). take at b ++ replicate n 0 ++ l) (drop-drop n at b ∙ ap (λ (x : ℕ). drop (at + x) b) (sym (length-replicate n 0)));
+}
 
 pub returns : goal.returns
 returns c =
-    let h = c.loop-i in
-    let s = c.args in
-    let l = length-replicate {A = ℕ} s.n 0 in
-    record {
-      place = omega arith;
-      written = put.copied s.buf.now h.buf (replicate s.n 0) s.at h.i (omega arith) h.invariant.3;
-    }
+    let a = c.args in
+    let k : a.at + a.n - a.at ≡ a.n = omega arith in
+    let long : length (take (a.at + a.n - a.at) (drop a.at a.buf.now)) ≡ a.n = length-take-le _ _ (omega (arith, c.requires, length-drop a.at a.buf.now)) ∙ k in
+    cleared a.buf.now c.fill.new.self a.at a.n _ _ k long (c.fill.ensures.after (λ y e. e))

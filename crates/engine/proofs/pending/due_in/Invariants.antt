@@ -1,13 +1,10 @@
--- The replies so far that are due; the measure is what is left of the count.
+-- The replies so far that are due.
 use mathlib.Core.List.{List}
-use Prim.Native.Nat.{ℕ, ◌-◌, ◌≤◌}
+use Prim.Native.Nat.{ℕ}
 use Rattle.engine.specs.Arrays.{names_in}
 use Rattle.engine.proofs.TablePasses.{Due}
 use Rattle.engine.proofs.pending.due_in.Given as goal
 
 abbrev pub invariant-loop-i : goal.invariant-loop-i
 invariant-loop-i l =
-    (l.i ≤ l.n) × ((texts : List ℕ) → Due l.time (names_in l.head l.numbers texts) l.i l.alone l.group)
-
-abbrev pub decreases-loop-i : goal.decreases-loop-i
-decreases-loop-i l = l.n - l.i
+    ((texts : List ℕ) → Due l.time (names_in l.head l.numbers texts) l.i l.alone l.group)

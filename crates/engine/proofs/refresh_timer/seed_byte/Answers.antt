@@ -1,17 +1,17 @@
--- Each arm knows the phase modulo 4, which fixes the power of 256 in the definition.
-use mathlib.Core.Path.{sym}
-use native.Mathlib.Omega.{arith}
-use Rattle.engine.proofs.Timer.{byte_of}
+-- The bytes of the seed, the lowest first, are what is left of its quotients by powers of 256.
+use Rattle.std.proofs.Common.{◌≡◌, ℕ, zero, suc, ◌%◌, ◌/◌, ◌^◌, ◌<◌, refl, arith}
+use Rattle.std.specs.Int.{w32, to_le_bytes}
+use lib.ListN.{get_or}
+use Rattle.engine.specs.RefreshTimer.{seed_byte}
 use Rattle.engine.proofs.refresh_timer.seed_byte.Goals as goal
 
-pub returns-in-0 : goal.returns-in-0
-returns-in-0 c = omega (arith, byte_of c.args.seed c.args.phase 0 c.in-0.is)
+byte : (seed i : ℕ) → i < 4 → get_or (to_le_bytes w32 seed) i 0 ≡ seed / 256 ^ i % 256
+byte seed zero h = omega arith
+byte seed (suc zero) h = refl
+byte seed (suc (suc zero)) h = refl
+byte seed (suc (suc (suc zero))) h = refl
+byte seed (suc (suc (suc (suc i)))) h = absurd (omega arith)
 
-pub returns-in-1 : goal.returns-in-1
-returns-in-1 c = sym (byte_of _ _ 1 c.in-1.is)
-
-pub returns-in-2 : goal.returns-in-2
-returns-in-2 c = sym (byte_of _ _ 2 c.in-2.is)
-
-pub returns-in_default : goal.returns-in_default
-returns-in_default c = sym (byte_of _ _ 3 (omega arith))
+pub returns : goal.returns
+unfolding seed_byte
+returns c = rw (c.to_le_bytes.ensures, c.from.ensures) (byte c.args.seed (c.args.phase % 4) (omega arith))

@@ -2,22 +2,15 @@
 use mathlib.Core.Path.{sym}
 use native.Mathlib.Omega.{arith}
 use Rattle.engine.proofs.Timer.{period-max, step-early, stepped_to}
-use borrow.Author.Rules.{rules}
 use Rattle.engine.proofs.refresh_timer.stepped.Goals as goal
 
 pub returns-then-time-due : goal.returns-then-time-due
 returns-then-time-due c = sym (step-early _ _ c.if-time-due.true)
 
-pub period_of-requires : goal.period_of-requires
-period_of-requires c = search rules
-
 pub overflow_add-result : goal.overflow_add-result
 overflow_add-result c =
     let t = c.args.timer in
     omega (arith, c.period_of.ensures, period-max t.random_seed t.phase)
-
-pub overflow_add-result-2 : goal.overflow_add-result-2
-overflow_add-result-2 c = search rules
 
 pub returns : goal.returns
 returns c =

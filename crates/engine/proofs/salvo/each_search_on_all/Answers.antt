@@ -1,43 +1,29 @@
-use mathlib.Core.Path.{sym, ◌∙◌}
+use mathlib.Core.Path.{refl, sym, ◌∙◌}
 use mathlib.Core.List.{[]}
-use Rattle.engine.proofs.TableRuns.{searches-length, search_is, row_room, row-turn, row-end}
-use Rattle.engine.proofs.Sending as sending
+use Rattle.engine.proofs.TableRuns.{searches-length, search_is, row-rest, row-turn, row-end}
 use Rattle.engine.proofs.Runs as runs
-use borrow.Author.Rules.{rules}
 use native.Mathlib.Omega.{arith}
 use Rattle.engine.proofs.salvo.each_search_on_all.Goals as goal
 
-pub count_of-m-requires : goal.count_of-m-requires
-count_of-m-requires c = search rules
-
 pub loop-i-init : goal.loop-i-init
-loop-i-init c = runs.start (omega (arith, c.requires))
-
-pub announce_search-at-requires : goal.announce_search-at-requires
-announce_search-at-requires c =
-    let a = c.args in
-    let count = searches-length a.head.now a.searches.now ∙ sym c.count_of-m.ensures in
-    let h = c.loop-i in
-    (omega arith, c.requires.0.1, row_room count [] (search_is a.head.now a.searches.now h.i (omega arith)) c.requires.1 (omega arith) h.invariant)
-
-pub overflow_add-i : goal.overflow_add-i
-overflow_add-i c = omega arith
-
-pub loop-i-smaller : goal.loop-i-smaller
-loop-i-smaller c = omega arith
+loop-i-init c = runs.start
 
 pub loop-i-preserved : goal.loop-i-preserved
 loop-i-preserved c =
     let a = c.args in
-    let count = searches-length a.head.now a.searches.now ∙ sym c.count_of-m.ensures in
+    let count = searches-length a.tables.now.head.now a.tables.now.searches.now ∙ sym c.count_of-i-end.ensures in
     let h = c.loop-i in
-    row-turn count [] (search_is a.head.now a.searches.now h.i (omega arith)) (omega arith) h.invariant c.announce_search-at.ensures
-
-pub shape_of-outbox : goal.shape_of-outbox
-shape_of-outbox c = sending.size c.loop-i.invariant.sends
+    row-turn count [] (search_is a.tables.now.head.now a.tables.now.searches.now h.i (omega arith) ∙ sym c.service_at-service.ensures) c.requires (omega arith) h.invariant c.send_search-k.ensures refl
 
 pub returns : goal.returns
 returns c =
     let a = c.args in
-    let count = searches-length a.head.now a.searches.now ∙ sym c.count_of-m.ensures in
+    let count = searches-length a.tables.now.head.now a.tables.now.searches.now ∙ sym c.count_of-i-end.ensures in
     row-end count (omega arith) c.loop-i.invariant
+
+pub send_search-k-requires : goal.send_search-k-requires
+send_search-k-requires c =
+    let a = c.args in
+    let count = searches-length a.tables.now.head.now a.tables.now.searches.now ∙ sym c.count_of-i-end.ensures in
+    let h = c.loop-i in
+    row-rest count [] (search_is a.tables.now.head.now a.tables.now.searches.now h.i (omega arith) ∙ sym c.service_at-service.ensures) c.requires (omega arith) h.invariant

@@ -1,14 +1,9 @@
--- The invariant is `Run` over the subscriptions. The measure is how many subscriptions are left.
-use Prim.Native.Nat.{◌-◌}
-use lib.ListN.{take}
+-- The invariant is `Run` over the subscriptions.
 use Rattle.engine.specs.Records.{search_on}
-use Rattle.engine.specs.Arrays.{searches_in}
+use Rattle.engine.specs.Lent.{searches_lent}
 use Rattle.engine.proofs.Runs.{Run}
 use Rattle.engine.proofs.salvo.each_search_on_all.Given as goal
 
 abbrev pub invariant-loop-i : goal.invariant-loop-i
 invariant-loop-i l =
-    Run (search_on (take l.n l.up)) (searches_in l.head l.searches) l.m l.initial.outbox l.k l.outbox l.at l.i
-
-abbrev pub decreases-loop-i : goal.decreases-loop-i
-decreases-loop-i l = l.m - l.i
+    Run (search_on l.up) (searches_lent l.tables) l.i-end l.initial.outbox l.outbox l.k l.i

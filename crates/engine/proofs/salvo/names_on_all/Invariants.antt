@@ -1,14 +1,9 @@
--- The invariant is `Run` over the names. The measure is how many names are left.
-use Prim.Native.Nat.{◌-◌}
-use lib.ListN.{take}
+-- The invariant is `Run` over the names.
 use Rattle.engine.specs.Records.{notify_on}
-use Rattle.engine.specs.Arrays.{names_in}
+use Rattle.engine.specs.Lent.{names_lent}
 use Rattle.engine.proofs.Runs.{Run}
 use Rattle.engine.proofs.salvo.names_on_all.Given as goal
 
 abbrev pub invariant-loop-i : goal.invariant-loop-i
 invariant-loop-i l =
-    Run (notify_on (take l.n l.up)) (names_in l.head l.numbers l.texts) l.m l.initial.outbox l.k l.outbox l.at l.i
-
-abbrev pub decreases-loop-i : goal.decreases-loop-i
-decreases-loop-i l = l.m - l.i
+    Run (notify_on l.up) (names_lent l.tables) l.i-end l.initial.outbox l.outbox l.k l.i

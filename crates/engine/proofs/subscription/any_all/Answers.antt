@@ -1,39 +1,18 @@
-use mathlib.Core.Path.{refl, sym, ◌∙◌}
-use Rattle.engine.proofs.SearchRows as rows
-use Rattle.engine.proofs.Masks as masks
-use borrow.Author.Rules.{rules}
+-- Each row is put to the test.
+use mathlib.Core.Path.{refl, ◌∙◌}
 use native.Mathlib.Omega.{arith}
+use borrow.Author.Rules.{rules}
+use Rattle.std.proofs.lemmas.Iterator.{YieldsList-from_range}
+use Rattle.std.proofs.lemmas.Iterator.Search.{any_from_yields_List}
+use Rattle.text.specs.Bytes.{equal}
+use Rattle.engine.specs.Target.{ssdp_all}
+use Rattle.engine.specs.Arrays.{search_at}
+use Rattle.engine.proofs.Masks as masks
 use Rattle.engine.proofs.subscription.any_all.Goals as goal
-
-pub count_of-n-requires : goal.count_of-n-requires
-count_of-n-requires c = search rules
-
-pub loop-i-init : goal.loop-i-init
-loop-i-init c = (omega arith, c.count_of-n.ensures, refl)
-
-pub is_to_all-requires : goal.is_to_all-requires
-is_to_all-requires c = (omega arith, c.requires.1)
-
-pub returns-then-is_to_all : goal.returns-then-is_to_all
-returns-then-is_to_all c =
-    let s = c.args in
-    let h = c.loop-i in
-    masks.all_here (rows.next-is s.head.now s.searches.now h.i (omega arith)) (sym c.is_to_all.ensures ∙ c.if-is_to_all.true) h.invariant.2
-
-pub overflow_add-i : goal.overflow_add-i
-overflow_add-i c = omega arith
-
-pub loop-i-smaller : goal.loop-i-smaller
-loop-i-smaller c = omega arith
-
-pub loop-i-preserved : goal.loop-i-preserved
-loop-i-preserved c =
-    let s = c.args in
-    let h = c.loop-i in
-    (omega arith, h.invariant.1, masks.all-later (rows.next-is s.head.now s.searches.now h.i (omega arith)) (sym c.is_to_all.ensures ∙ c.if-is_to_all.false) h.invariant.2)
 
 pub returns : goal.returns
 returns c =
     let s = c.args in
-    let h = c.loop-i in
-    masks.all-never (rows.none_left s.head.now s.searches.now h.i (omega arith)) h.invariant.2
+    let n = c.count_of-n in
+    any_from_yields_List (λ i. equal (search_at i s.searches.now) ssdp_all) _ _ c.any.result c.any.ensures.ran (YieldsList-from_range 0 n.result n.result refl (omega arith)) (λ i b q k. search rules)
+    ∙ masks.any-of s.head.now s.searches.now n.ensures

@@ -1,4 +1,4 @@
--- The mask is that of the subscriptions from `i` on. The measure is `i`.
+-- The mask is that of the subscriptions from `i` on.
 use mathlib.Core.Path.{◌≡◌}
 use Prim.Native.Nat.{◌≤◌}
 use lib.ListN.{drop}
@@ -8,6 +8,3 @@ use Rattle.engine.proofs.subscription.mask_of.Given as goal
 
 abbrev pub invariant-loop-i : goal.invariant-loop-i
 invariant-loop-i l = (l.i ≤ search_count l.head) × (l.mask ≡ mask_of (drop l.i (searches_in l.head l.searches)) l.service)
-
-abbrev pub decreases-loop-i : goal.decreases-loop-i
-decreases-loop-i l = l.i

@@ -3,11 +3,7 @@ use mathlib.Core.Path.{◌∙◌, ap}
 use lib.Count.{ones}
 use Rattle.engine.specs.Arrays.{searches_in}
 use Rattle.engine.proofs.Masks.{told-ones}
-use borrow.Author.Rules.{rules}
 use Rattle.engine.proofs.subscription.told_of.Goals as goal
-
-pub mask_of-mask-requires : goal.mask_of-mask-requires
-mask_of-mask-requires c = search rules
 
 pub returns : goal.returns
 returns c =

@@ -1,23 +1,10 @@
 -- The same type is always wanted; any other by what was found of the target, case by case.
 use mathlib.Core.Path.{sym, ◌∙◌}
 use Rattle.engine.proofs.Wanting as wanting
-use borrow.Author.Rules.{rules}
 use Rattle.engine.proofs.wanted.wants.Goals as goal
-
-pub equal-requires : goal.equal-requires
-equal-requires c = search rules
 
 pub returns-then-equal : goal.returns-then-equal
 returns-then-equal c = wanting.wants_equal _ _ (sym c.equal.ensures ∙ c.if-equal.true)
-
-pub enum_told-1 : goal.enum_told-1
-enum_told-1 c = search rules
-
-pub enum_told-in-Same : goal.enum_told-in-Same
-enum_told-in-Same c = search rules
-
-pub enum_known-wanted : goal.enum_known-wanted
-enum_known-wanted c = search rules
 
 pub is_later-requires : goal.is_later-requires
 is_later-requires c = wanting.wants_within _ _ _ (sym c.in-Version.is ∙ c.requires)

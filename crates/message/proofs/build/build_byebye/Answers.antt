@@ -1,30 +1,15 @@
--- `build_byebye` meets its contract: refused, nothing was written; accepted, the buffer has room and the text was put over its start.
+-- `build_byebye`: refused, nothing was written; accepted, the buffer has room and the text was put over its start.
 use native.Mathlib.Omega.{arith}
 use lib.ListN.{length}
-use Rattle.message.specs.Build.{byebye_texts}
-use Rattle.message.proofs.Building.{refused, done, room, byebye-refusal}
-use borrow.Author.Rules.{rules}
+use Rattle.message.specs.Build.{byebye_texts, byebye_text}
+use Rattle.message.proofs.Building.{refused, done, room, byebye-refusal, byebye-length}
 use Rattle.message.proofs.build.build_byebye.Goals as goal
 
-pub refusal_of-refusal-requires : goal.refusal_of-refusal-requires
-refusal_of-refusal-requires c = search rules
+pub returns-in_err-check : goal.returns-in_err-check
+returns-in_err-check c = let k = c.args.notification_type.now in let n = c.args.unique_service_name.now in refused (byebye_texts k n) (byebye_text k n) c.args.buf.now (byebye-refusal (length c.args.buf.now) k n) _ _ c.in_err-check.ensures c.from_residual.ensures.1
 
-pub returns-then-refusal-ne-ACCEPTED : goal.returns-then-refusal-ne-ACCEPTED
-returns-then-refusal-ne-ACCEPTED c =
-    let k = c.args.notification_type.now in
-    let n = c.args.unique_service_name.now in
-    refused (byebye_texts k n) c.refusal_of-refusal.ensures (byebye-refusal (length c.args.buf.now) k n) c.if-refusal-ne-ACCEPTED.true
-
-pub put_byebye-len-requires : goal.put_byebye-len-requires
-put_byebye-len-requires c =
-    let short = room _ _ _ c.refusal_of-refusal.ensures c.if-refusal-ne-ACCEPTED.false in
-    omega arith
-
-pub shape_of-buf : goal.shape_of-buf
-shape_of-buf c = search rules
+pub put_byebye-requires : goal.put_byebye-requires
+put_byebye-requires c = let k = c.args.notification_type.now in let n = c.args.unique_service_name.now in let h = room (byebye_texts k n) (byebye_text k n) c.args.buf.now (byebye-refusal (length c.args.buf.now) k n) c.in_ok-check.ensures in omega (arith, byebye-length k n)
 
 pub returns : goal.returns
-returns c =
-    let k = c.args.notification_type.now in
-    let n = c.args.unique_service_name.now in
-    done (byebye_texts k n) c.refusal_of-refusal.ensures (byebye-refusal (length c.args.buf.now) k n) c.if-refusal-ne-ACCEPTED.false c.put_byebye-len.ensures
+returns c = let k = c.args.notification_type.now in let n = c.args.unique_service_name.now in done (byebye_texts k n) (byebye_text k n) c.args.buf.now (byebye-refusal (length c.args.buf.now) k n) c.in_ok-check.ensures c.put_byebye.ensures

@@ -1,32 +1,15 @@
--- `build_notify` meets its contract: refused, nothing was written; accepted, the buffer has room and the text was put over its start.
+-- `build_notify`: refused, nothing was written; accepted, the buffer has room and the text was put over its start.
 use native.Mathlib.Omega.{arith}
 use lib.ListN.{length}
-use Rattle.message.specs.Build.{located_texts}
-use Rattle.message.proofs.Building.{refused, done, room, notify-refusal}
-use borrow.Author.Rules.{rules}
+use Rattle.message.specs.Build.{located_texts, notify_text}
+use Rattle.message.proofs.Building.{refused, done, room, notify-refusal, notify-length}
 use Rattle.message.proofs.build.build_notify.Goals as goal
 
-pub refusal_of-refusal-requires : goal.refusal_of-refusal-requires
-refusal_of-refusal-requires c = search rules
+pub returns-in_err-check : goal.returns-in_err-check
+returns-in_err-check c = let k = c.args.notification_type.now in let n = c.args.unique_service_name.now in let l = c.args.location.now in refused (located_texts k n l) (notify_text k n l) c.args.buf.now (notify-refusal (length c.args.buf.now) k n l) _ _ c.in_err-check.ensures c.from_residual.ensures.1
 
-pub returns-then-refusal-ne-ACCEPTED : goal.returns-then-refusal-ne-ACCEPTED
-returns-then-refusal-ne-ACCEPTED c =
-    let k = c.args.notification_type.now in
-    let n = c.args.unique_service_name.now in
-    let l = c.args.location.now in
-    refused (located_texts k n l) c.refusal_of-refusal.ensures (notify-refusal (length c.args.buf.now) k n l) c.if-refusal-ne-ACCEPTED.true
-
-pub put_alive-len-requires : goal.put_alive-len-requires
-put_alive-len-requires c =
-    let short = room _ _ _ c.refusal_of-refusal.ensures c.if-refusal-ne-ACCEPTED.false in
-    omega arith
-
-pub shape_of-buf : goal.shape_of-buf
-shape_of-buf c = search rules
+pub put_alive-requires : goal.put_alive-requires
+put_alive-requires c = let k = c.args.notification_type.now in let n = c.args.unique_service_name.now in let l = c.args.location.now in let h = room (located_texts k n l) (notify_text k n l) c.args.buf.now (notify-refusal (length c.args.buf.now) k n l) c.in_ok-check.ensures in omega (arith, notify-length k n l)
 
 pub returns : goal.returns
-returns c =
-    let k = c.args.notification_type.now in
-    let n = c.args.unique_service_name.now in
-    let l = c.args.location.now in
-    done (located_texts k n l) c.refusal_of-refusal.ensures (notify-refusal (length c.args.buf.now) k n l) c.if-refusal-ne-ACCEPTED.false c.put_alive-len.ensures
+returns c = let k = c.args.notification_type.now in let n = c.args.unique_service_name.now in let l = c.args.location.now in done (located_texts k n l) (notify_text k n l) c.args.buf.now (notify-refusal (length c.args.buf.now) k n l) c.in_ok-check.ensures c.put_alive.ensures

@@ -1,20 +1,7 @@
 -- `put_header` meets its contract: three texts, each right behind the one before.
 use native.Mathlib.Omega.{arith}
 use Rattle.text.proofs.Writing.{behind}
-use borrow.Author.Rules.{rules}
 use Rattle.message.proofs.build.put_header.Goals as goal
-
-pub put-a-requires : goal.put-a-requires
-put-a-requires c = search rules
-
-pub put-b-requires : goal.put-b-requires
-put-b-requires c = search rules
-
-pub put-requires : goal.put-requires
-put-requires c = search rules
-
-pub shape_of-buf : goal.shape_of-buf
-shape_of-buf c = search rules
 
 pub returns : goal.returns
 returns c =

@@ -1,30 +1,11 @@
 -- `lend` meets its contract: before an engine has begun, and then.
-use Rattle.program.proofs.Replying.{given-lend-before, given-lend}
 use Rattle.text.specs.Bytes.{bytes}
-use borrow.Author.Rules.{rules}
-use borrow.Author.Tests.{not-true, not-false}
+use Rattle.program.proofs.Replying.{given-lend-before, given-lend}
 use Rattle.program.proofs.line.lend.Goals as goal
 
-pub unheard-requires : goal.unheard-requires
-unheard-requires c = search rules
-
-pub shape_of-out-then-not-s : goal.shape_of-out-then-not-s
-shape_of-out-then-not-s c = search rules
-
-pub returns-then-not-s : goal.returns-then-not-s
-returns-then-not-s c =
-    λ e outbox. given-lend-before c.args.s c.args.n e outbox (not-true _ c.if-not-s.true) (c.unheard.ensures e outbox)
-
-pub with_lent-next-requires : goal.with_lent-next-requires
-with_lent-next-requires c = search rules
-
-pub say-requires : goal.say-requires
-say-requires c = search rules
-
-pub shape_of-out : goal.shape_of-out
-shape_of-out c = search rules
+pub returns-in_default : goal.returns-in_default
+returns-in_default c = λ e outbox. given-lend-before c.args.s c.args.n e outbox c.in_default.is (c.unheard.ensures e outbox)
 
 pub returns : goal.returns
 unfolding bytes
-returns c =
-    λ e outbox. given-lend c.args.s c.args.n e outbox (not-false _ c.if-not-s.false) c.with_lent-next.ensures c.say.ensures
+returns c = λ e outbox. given-lend c.args.s c.args.n e outbox c.in-Some.is c.with_lent.ensures c.say.ensures

@@ -1,29 +1,19 @@
-use mathlib.Core.Path.{refl, sym, ◌∙◌}
+use mathlib.Core.Path.{sym, ◌∙◌, ap}
+use mathlib.Core.Bool.{Bool, ◌&&◌}
+use Prim.Native.Nat.{◌+◌}
+use lib.ListN.{drop}
 use native.Mathlib.Omega.{arith}
+use Rattle.text.specs.Range.{every}
 use Rattle.text.specs.Good.{visible}
 use Rattle.text.proofs.Every as laws
 use Rattle.text.proofs.good.all_visible.Goals as goal
 
-pub loop-i-init : goal.loop-i-init
-loop-i-init c = (omega arith, refl)
-
-pub bounds-s-i : goal.bounds-s-i
-bounds-s-i c = omega arith
-
-pub overflow_add-i : goal.overflow_add-i
-overflow_add-i c = omega arith
-
-pub loop-i-smaller : goal.loop-i-smaller
-loop-i-smaller c = omega arith
-
-pub loop-i-preserved : goal.loop-i-preserved
-loop-i-preserved c =
-    let l = c.loop-i in
-    let a = c.args in
-    (omega arith, sym (laws.every-turn visible a.s.now l.i l.all (omega arith)) ∙ l.invariant.1)
+pub loop-b-preserved : goal.loop-b-preserved
+loop-b-preserved c =
+    let l = c.loop-b in
+    let s = c.args.s.now in
+    ap (λ (t : Bool). l.all && t && every visible (drop (l.b-index + 1) s)) c.is_ascii_graphic-all.ensures.value
+    ∙ sym (laws.every-turn visible s l.b-index l.all (omega arith)) ∙ l.invariant
 
 pub returns : goal.returns
-returns c =
-    let l = c.loop-i in
-    let a = c.args in
-    sym (laws.every-end visible a.s.now l.i l.all (omega arith)) ∙ l.invariant.1
+returns c = let l = c.loop-b in sym (laws.every-end visible c.args.s.now l.b-index l.all (omega arith)) ∙ l.invariant

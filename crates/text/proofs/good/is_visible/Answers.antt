@@ -1,71 +1,34 @@
-use Prim.Native.Nat.{◌+◌, ◌-◌}
-use lib.ListN.{length}
-use mathlib.Core.Path.{refl, sym, ◌∙◌}
-use borrow.Author.Rules.{rules}
+-- `good::is_visible`: a block that is not visible ends it; behind the whole blocks the last one decides.
+use Prim.Native.Nat.{ℕ, ◌*◌, ◌-◌, ◌<◌, ◌/◌}
+use lib.ListN.{length, drop, length-drop}
 use native.Mathlib.Omega.{arith}
+use mathlib.Core.Path.{◌≡◌, sym, ◌∙◌, ap}
 use Rattle.text.specs.Good.{visible}
 use Rattle.text.proofs.Every as laws
 use Rattle.text.proofs.good.is_visible.Goals as goal
 
-pub all_visible-requires : goal.all_visible-requires
-all_visible-requires c = search rules
-
-pub returns-then-s-lt16 : goal.returns-then-s-lt16
-returns-then-s-lt16 c = search rules
-
-pub loop-i-init : goal.loop-i-init
-loop-i-init c = (omega arith, refl)
-
-pub overflow_sub-s : goal.overflow_sub-s
-overflow_sub-s c = omega arith
-
-pub overflow_add-e : goal.overflow_add-e
-overflow_add-e c = omega arith
-
-pub slice_bounds-all_visible-count : goal.slice_bounds-all_visible-count
-slice_bounds-all_visible-count c = omega arith
-
-pub slice_bounds-all_visible-start : goal.slice_bounds-all_visible-start
-slice_bounds-all_visible-start c = omega arith
-
-pub slice_bounds-all_visible-end : goal.slice_bounds-all_visible-end
-slice_bounds-all_visible-end c = omega arith
-
-pub all_visible-requires-in-loop-i : goal.all_visible-requires-in-loop-i
-all_visible-requires-in-loop-i c = search rules
-
 pub returns-then-not-all_visible : goal.returns-then-not-all_visible
 returns-then-not-all_visible c =
-    let l = c.loop-i in
     let s = c.args.s.now in
-    laws.block_fails visible s l.i (l.i + 16) (omega arith) (sym c.all_visible-in-loop-i.ensures ∙ c.if-not-all_visible.true) l.invariant.1
+    let i = c.loop-block.block-index in
+    let p = c.as_chunks.ensures in
+    laws.block_fails visible s (drop (16 * i) s) 16 (laws.block_at s (length s / 16) i p.front (omega (arith, p.front_len, c.loop-block-test.true))) c.loop-block.invariant
+    (sym c.all_visible-in-loop-block.ensures ∙ c.if-not-all_visible.true)
 
-pub loop-i-smaller : goal.loop-i-smaller
-loop-i-smaller c = omega arith
-
-pub loop-i-preserved : goal.loop-i-preserved
-loop-i-preserved c =
-    let l = c.loop-i in
+pub loop-block-preserved : goal.loop-block-preserved
+loop-block-preserved c =
     let s = c.args.s.now in
-    (omega arith, laws.block_passes visible s l.i (l.i + 16) (omega arith) (sym c.all_visible-in-loop-i.ensures ∙ c.if-not-all_visible.false) l.invariant.1)
-
-pub overflow_sub-last : goal.overflow_sub-last
-overflow_sub-last c = omega arith
-
-pub slice_bounds-all_visible-count-2 : goal.slice_bounds-all_visible-count-2
-slice_bounds-all_visible-count-2 c = omega arith
-
-pub slice_bounds-all_visible-start-2 : goal.slice_bounds-all_visible-start-2
-slice_bounds-all_visible-start-2 c = omega arith
-
-pub slice_bounds-all_visible-end-2 : goal.slice_bounds-all_visible-end-2
-slice_bounds-all_visible-end-2 c = omega arith
-
-pub all_visible-requires-2 : goal.all_visible-requires-2
-all_visible-requires-2 c = search rules
+    let i = c.loop-block.block-index in
+    let p = c.as_chunks.ensures in
+    laws.block_passes visible s (drop (16 * i) s) 16 (laws.block_at s (length s / 16) i p.front (omega (arith, p.front_len, c.loop-block-test.true))) c.loop-block.invariant
+    (laws.behind_block s i) (sym c.all_visible-in-loop-block.ensures ∙ c.if-not-all_visible.false)
 
 pub returns : goal.returns
 returns c =
-    let l = c.loop-i in
     let s = c.args.s.now in
-    c.all_visible-2.ensures ∙ laws.block_last visible s l.i (length s - 16) (omega arith) l.invariant.1
+    let i = c.loop-block.block-index in
+    let k = c.in-Some.ensures.cases in
+    let n : length (drop (16 * i) s) ≡ length s - 16 * i = length-drop (16 * i) s in
+    let g : length (drop (16 * i) s) < 16 = omega (arith, n, c.as_chunks.ensures.front_len, c.loop-block-test.false) in
+    c.all_visible-2.ensures ∙ laws.block_last visible s (drop (16 * i) s) 16 k.0 g k.1.same
+    (ap (λ (m : ℕ). drop m s) (omega (arith, n, c.as_chunks.ensures.front_len, c.loop-block.auto.block-index-end))) c.loop-block.invariant

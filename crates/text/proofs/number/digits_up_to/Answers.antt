@@ -1,70 +1,46 @@
-use mathlib.Core.Path.{sym, ◌∙◌}
+use Prim.Native.Nat.{ℕ, ◌+◌}
+use lib.ListN.{drop}
+use mathlib.Core.Path.{sym, ◌∙◌, ap}
 use native.Mathlib.Omega.{arith}
+use borrow.Author.Tests.{eqb-true, eqb-false}
+use Rattle.text.specs.Number.{more}
 use Rattle.text.proofs.Digits as laws
 use Rattle.text.proofs.number.digits_up_to.Goals as goal
 
-pub returns-then-s-eq0 : goal.returns-then-s-eq0
-returns-then-s-eq0 c = sym (laws.no_digits c.args.max c.args.s.now (omega arith))
+pub returns-then-is_empty : goal.returns-then-is_empty
+returns-then-is_empty c = sym (laws.no_digits c.args.max c.args.s.now (eqb-true _ 0 (sym c.is_empty.ensures ∙ c.if-is_empty.true)))
 
-pub loop-i-init : goal.loop-i-init
-loop-i-init c = (omega arith, omega arith, laws.some-digits c.args.max c.args.s.now (λ e. omega arith))
+pub loop-d-init : goal.loop-d-init
+loop-d-init c = (omega arith, laws.some-digits c.args.max c.args.s.now (eqb-false _ 0 (sym c.is_empty.ensures ∙ c.if-is_empty.false)))
 
-pub bounds-s-i : goal.bounds-s-i
-bounds-s-i c = omega arith
+pub returns-then-not-is_ascii_digit : goal.returns-then-not-is_ascii_digit
+returns-then-not-is_ascii_digit c =
+    let l = c.loop-d in
+    sym (l.invariant.1 ∙ laws.digit-not c.args.max l.n c.args.s.now l.d-index (omega arith) (sym c.is_ascii_digit.ensures.value ∙ c.if-not-is_ascii_digit.true))
 
-pub returns-then-d-lt48 : goal.returns-then-d-lt48
-returns-then-d-lt48 c =
-    let l = c.loop-i in
-    let a = c.args in
-    sym (l.invariant.2 ∙ laws.digit-below a.max l.n a.s.now l.i (omega arith) c.if-d-lt48.true)
+pub returns-in_err-checked_mul : goal.returns-in_err-checked_mul
+returns-in_err-checked_mul c =
+    let l = c.loop-d in
+    c.from_residual.ensures
+    ∙ sym (l.invariant.1 ∙ laws.digit-over c.args.max l.n c.args.s.now l.d-index (omega arith) (sym c.is_ascii_digit.ensures.value ∙ c.if-not-is_ascii_digit.false) (omega arith))
 
-pub returns-then-d-gt57 : goal.returns-then-d-gt57
-returns-then-d-gt57 c =
-    let l = c.loop-i in
-    let a = c.args in
-    sym (l.invariant.2 ∙ laws.digit-above a.max l.n a.s.now l.i (omega arith) c.if-d-lt48.false c.if-d-gt57.true)
-
-pub overflow_cast-v : goal.overflow_cast-v
-overflow_cast-v c = omega arith
+pub returns-in_err-n : goal.returns-in_err-n
+returns-in_err-n c =
+    let l = c.loop-d in
+    c.from_residual-in_err-n.ensures
+    ∙ sym (l.invariant.1 ∙ laws.digit-over c.args.max l.n c.args.s.now l.d-index (omega arith) (sym c.is_ascii_digit.ensures.value ∙ c.if-not-is_ascii_digit.false) (omega arith))
 
 pub returns-then-max-n : goal.returns-then-max-n
 returns-then-max-n c =
-    let l = c.loop-i in
-    let a = c.args in
-    sym (l.invariant.2 ∙ laws.digit-over a.max l.n a.s.now l.i (omega arith) c.if-d-lt48.false c.if-d-gt57.false (omega arith))
+    let l = c.loop-d in
+    sym (l.invariant.1 ∙ laws.digit-over c.args.max l.n c.args.s.now l.d-index (omega arith) (sym c.is_ascii_digit.ensures.value ∙ c.if-not-is_ascii_digit.false) (omega arith))
 
-pub overflow_mul-n : goal.overflow_mul-n
-overflow_mul-n c = omega arith
-
-pub overflow_sub-max : goal.overflow_sub-max
-overflow_sub-max c = omega arith
-
-pub returns-then-max-n-2 : goal.returns-then-max-n-2
-returns-then-max-n-2 c =
-    let l = c.loop-i in
-    let a = c.args in
-    sym (l.invariant.2 ∙ laws.digit-over a.max l.n a.s.now l.i (omega arith) c.if-d-lt48.false c.if-d-gt57.false (omega arith))
-
-pub overflow_mul-n-in-loop-i : goal.overflow_mul-n-in-loop-i
-overflow_mul-n-in-loop-i c = omega arith
-
-pub overflow_add-n : goal.overflow_add-n
-overflow_add-n c = omega arith
-
-pub overflow_add-i : goal.overflow_add-i
-overflow_add-i c = omega arith
-
-pub loop-i-smaller : goal.loop-i-smaller
-loop-i-smaller c = omega arith
-
-pub loop-i-preserved : goal.loop-i-preserved
-loop-i-preserved c =
-    let l = c.loop-i in
-    let a = c.args in
-    (omega arith, omega arith, l.invariant.2 ∙ laws.digit-turn a.max l.n a.s.now l.i (omega arith) c.if-d-lt48.false c.if-d-gt57.false)
+pub loop-d-preserved : goal.loop-d-preserved
+loop-d-preserved c =
+    let l = c.loop-d in
+    (omega arith, l.invariant.1 ∙ laws.digit-turn c.args.max l.n c.args.s.now l.d-index (omega arith) (sym c.is_ascii_digit.ensures.value ∙ c.if-not-is_ascii_digit.false) ∙ ap (λ (n : ℕ). more c.args.max n (drop (l.d-index + 1) c.args.s.now)) (omega arith))
 
 pub returns : goal.returns
 returns c =
-    let l = c.loop-i in
-    let a = c.args in
-    sym (l.invariant.2 ∙ laws.digits-end a.max l.n a.s.now l.i (omega arith) l.invariant.1)
+    let l = c.loop-d in
+    sym (l.invariant.1 ∙ laws.digits-end c.args.max l.n c.args.s.now l.d-index (omega arith) (omega arith))

@@ -1,37 +1,25 @@
--- `utf8::has_tail`: each arm of the match is what is asked of that many bytes.
-use mathlib.Core.Path.{refl}
-use borrow.Author.Rules.{rules}
+-- `utf8::has_tail`: as many bytes as the lead byte says, one by one, or fewer.
 use native.Mathlib.Omega.{arith}
-use Rattle.text.specs.Utf8.{follows}
 use Rattle.text.proofs.Encoding as laws
 use Rattle.text.proofs.utf8.has_tail.Goals as goal
 
-pub has_one-requires : goal.has_one-requires
-has_one-requires c = search rules
+pub returns-in-0-default : goal.returns-in-0-default
+returns-in-0-default c = laws.tail-none c.args.lead c.args.rest.now (omega arith)
 
-pub has_two-requires : goal.has_two-requires
-has_two-requires c = search rules
+pub returns-in-1-len1-up : goal.returns-in-1-len1-up
+returns-in-1-len1-up c = laws.tail-one c.args.lead c.args.rest.now (omega arith) (omega arith) c.admits.ensures
 
-pub has_three-requires : goal.has_three-requires
-has_three-requires c = search rules
+pub returns-in-2-len2-up : goal.returns-in-2-len2-up
+returns-in-2-len2-up c = laws.tail-two c.args.lead c.args.rest.now (omega arith) (omega arith) c.admits-in-2-len2-up.ensures c.continues.ensures
 
-pub returns-in-0 : goal.returns-in-0
-unfolding follows
-returns-in-0 c =
-    let a = c.args in
-    laws.tailed-arm a.lead a.s.now a.i 0 (omega (arith, c.in-0.is)) refl
-
-pub returns-in-1 : goal.returns-in-1
-returns-in-1 c =
-    let a = c.args in
-    laws.tailed-arm a.lead a.s.now a.i 1 (omega (arith, c.in-1.is)) c.has_one.ensures
-
-pub returns-in-2 : goal.returns-in-2
-returns-in-2 c =
-    let a = c.args in
-    laws.tailed-arm a.lead a.s.now a.i 2 (omega (arith, c.in-2.is)) c.has_two.ensures
+pub returns-in-3-len3-up : goal.returns-in-3-len3-up
+returns-in-3-len3-up c = laws.tail-three c.args.lead c.args.rest.now (omega arith) (omega arith) c.admits-in-3-len3-up.ensures c.continues-in-3-len3-up.ensures c.continues-in-3-len3-up-2.ensures
 
 pub returns-in_default : goal.returns-in_default
-returns-in_default c =
-    let a = c.args in
-    laws.tailed-arm a.lead a.s.now a.i 3 (omega (arith, c.in_default.in_default-own.rest)) c.has_three.ensures
+returns-in_default c = laws.tail-short c.args.lead c.args.rest.now (omega arith)
+
+pub returns-in_default-2 : goal.returns-in_default-2
+returns-in_default-2 c = laws.tail-short c.args.lead c.args.rest.now (omega arith)
+
+pub returns-in_default-3 : goal.returns-in_default-3
+returns-in_default-3 c = laws.tail-short c.args.lead c.args.rest.now (omega arith)

@@ -1,24 +1,16 @@
-use lib.ListN.{get_or}
-use mathlib.Core.Path.{refl, sym, ◌∙◌}
-use borrow.Author.Rules.{rules}
+use Prim.Native.Nat.{ℕ, ◌+◌}
+use lib.ListN.{get_or, drop}
+use Rattle.text.specs.Utf8.{utf8}
+use mathlib.Core.Path.{refl, sym, ◌∙◌, ap}
 use native.Mathlib.Omega.{arith}
 use Rattle.text.proofs.Encoding as laws
 use Rattle.text.proofs.utf8.is_utf8.Goals as goal
-
-pub is_ascii-requires : goal.is_ascii-requires
-is_ascii-requires c = search rules
 
 pub returns-then-is_ascii : goal.returns-then-is_ascii
 returns-then-is_ascii c = laws.ascii-whole c.args.s.now (sym c.is_ascii.ensures ∙ c.if-is_ascii.true)
 
 pub loop-i-init : goal.loop-i-init
 loop-i-init c = (omega arith, refl)
-
-pub bounds-s-i : goal.bounds-s-i
-bounds-s-i c = omega arith
-
-pub lead_of-lead-requires : goal.lead_of-lead-requires
-lead_of-lead-requires c = search rules
 
 pub ascii_end-i-requires : goal.ascii_end-i-requires
 ascii_end-i-requires c =
@@ -36,7 +28,7 @@ pub has_tail-requires : goal.has_tail-requires
 has_tail-requires c =
     let l = c.loop-i in
     let a = c.args in
-    (omega arith, laws.tail-most (get_or a.s.now l.i 0) (omega (arith, c.shared_slice_known-in-loop-i-1.given l.i)) c.lead_of-lead.ensures)
+    laws.tail-most (get_or a.s.now l.i 0) (omega (arith, c.shared_slice_known-in-loop-i-1.given l.i)) c.lead_of-lead.ensures
 
 pub returns-then-not-has_tail : goal.returns-then-not-has_tail
 returns-then-not-has_tail c =
@@ -45,12 +37,6 @@ returns-then-not-has_tail c =
     let k = laws.character a.s.now l.i (omega arith) c.lead_of-lead.ensures c.has_tail.ensures in
     laws.refused k (c.if-not-has_tail.true) ∙ l.invariant.1
 
-pub overflow_cast-i : goal.overflow_cast-i
-overflow_cast-i c = search rules
-
-pub overflow_add-i : goal.overflow_add-i
-overflow_add-i c = search rules
-
 pub overflow_add-i-in-loop-i : goal.overflow_add-i-in-loop-i
 overflow_add-i-in-loop-i c =
     let l = c.loop-i in
@@ -58,15 +44,12 @@ overflow_add-i-in-loop-i c =
     let k = laws.character a.s.now l.i (omega arith) c.lead_of-lead.ensures c.has_tail.ensures in
     omega (arith, k.inside (c.if-not-has_tail.false))
 
-pub loop-i-smaller : goal.loop-i-smaller
-loop-i-smaller c = omega arith
-
 pub loop-i-preserved : goal.loop-i-preserved
 loop-i-preserved c =
     let l = c.loop-i in
     let a = c.args in
     let k = laws.character a.s.now l.i (omega arith) c.lead_of-lead.ensures c.has_tail.ensures in
-    (k.inside (c.if-not-has_tail.false), laws.passed k (c.if-not-has_tail.false) ∙ l.invariant.1)
+    (omega (arith, k.inside c.if-not-has_tail.false), ap (λ (n : ℕ). utf8 (drop (l.i + (1 + n)) a.s.now)) c.from.ensures ∙ laws.passed k (c.if-not-has_tail.false) ∙ l.invariant.1)
 
 pub returns : goal.returns
 returns c =

@@ -1,42 +1,11 @@
 -- `utf8::lead_of`: each arm of the match is a byte, or a range over which the rule is one computed test.
-use mathlib.Core.Path.{◌≡◌, ◌∙◌, refl}
+use mathlib.Core.Path.{◌≡◌, ◌∙◌}
 use Prim.Native.Nat.{ℕ}
-use borrow.Author.Rules.{rules}
 use native.Mathlib.Omega.{arith}
 use Rattle.text.specs.Utf8.{lead_of, expects}
 use Rattle.text.proofs.Encoding.{arm, leads}
 use Rattle.text.proofs.utf8.lead_of.Goals as goal
 use Rattle.text.proofs.utf8.lead_of.Goals.{in_default-via-then-b-lt194, in_default-via-else-b-lt194+else-b-lt224+else-b-lt237+else-b-lt240+else-b-lt244}
-
-pub expects-requires : goal.expects-requires
-expects-requires c = search rules
-
-pub expects-requires-in-237 : goal.expects-requires-in-237
-expects-requires-in-237 c = search rules
-
-pub expects-requires-in-240 : goal.expects-requires-in-240
-expects-requires-in-240 c = search rules
-
-pub expects-requires-in-244 : goal.expects-requires-in-244
-expects-requires-in-244 c = search rules
-
-pub expects-requires-in-0-to-127 : goal.expects-requires-in-0-to-127
-expects-requires-in-0-to-127 c = search rules
-
-pub expects-requires-in-194-to-223 : goal.expects-requires-in-194-to-223
-expects-requires-in-194-to-223 c = search rules
-
-pub expects-requires-in-225-to-236 : goal.expects-requires-in-225-to-236
-expects-requires-in-225-to-236 c = search rules
-
-pub expects-requires-in-238-to-239 : goal.expects-requires-in-238-to-239
-expects-requires-in-238-to-239 c = search rules
-
-pub expects-requires-in-241-to-243 : goal.expects-requires-in-241-to-243
-expects-requires-in-241-to-243 c = search rules
-
-pub expects-requires-in_default : goal.expects-requires-in_default
-expects-requires-in_default c = search rules
 
 pub returns-in-224 : goal.returns-in-224
 unfolding leads lead_of

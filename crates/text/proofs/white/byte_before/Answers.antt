@@ -2,19 +2,9 @@
 use mathlib.Core.Path.{sym}
 use mathlib.Core.List.{reverse}
 use lib.ListN.{take, get_or-eq_default}
-use borrow.Author.Rules.{rules}
 use native.Mathlib.Omega.{arith}
 use Rattle.text.proofs.Trimming as laws
 use Rattle.text.proofs.white.byte_before.Goals as goal
-
-pub overflow_sub-result : goal.overflow_sub-result
-overflow_sub-result c = search rules
-
-pub overflow_sub-result-then-k-e : goal.overflow_sub-result-then-k-e
-overflow_sub-result-then-k-e c = search rules
-
-pub bounds-s-e : goal.bounds-s-e
-bounds-s-e c = search rules
 
 pub returns-then-k-e : goal.returns-then-k-e
 returns-then-k-e c =

@@ -6,9 +6,6 @@ use Rattle.text.proofs.white.leading_of.Goals as goal
 pub loop-i-init : goal.loop-i-init
 loop-i-init c = (omega arith, omega arith)
 
-pub opening_at-w-requires : goal.opening_at-w-requires
-opening_at-w-requires c = omega arith
-
 pub returns-then-w-eq0 : goal.returns-then-w-eq0
 returns-then-w-eq0 c =
     let l = c.loop-i in

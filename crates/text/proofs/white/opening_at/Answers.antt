@@ -2,47 +2,16 @@
 use Prim.Native.Nat.{◌+◌}
 use mathlib.Core.Path.{refl, sym, ◌∙◌}
 use lib.ListN.{get_or}
-use borrow.Author.Rules.{rules}
 use native.Mathlib.Omega.{arith}
 use Rattle.text.specs.White.{opening}
 use Rattle.text.proofs.Trimming as laws
 use Rattle.text.proofs.white.opening_at.Goals as goal
-
-pub bounds-s-i : goal.bounds-s-i
-bounds-s-i c = search rules
-
-pub ascii_width-requires : goal.ascii_width-requires
-ascii_width-requires c = search rules
 
 pub returns-then-a-le127 : goal.returns-then-a-le127
 returns-then-a-le127 c =
     let s = c.args.s.now in
     let i = c.args.i in
     c.ascii_width.ensures ∙ laws.opening-ascii (get_or s i 0) (get_or s (i + 1) 0) (get_or s (i + 2) 0) (omega arith) ∙ sym (laws.at_drop opening s i)
-
-pub overflow_add-i : goal.overflow_add-i
-overflow_add-i c = search rules
-
-pub byte_at-b-requires : goal.byte_at-b-requires
-byte_at-b-requires c = search rules
-
-pub overflow_add-i-2 : goal.overflow_add-i-2
-overflow_add-i-2 c = search rules
-
-pub byte_at-c-requires : goal.byte_at-c-requires
-byte_at-c-requires c = search rules
-
-pub is_white1-requires : goal.is_white1-requires
-is_white1-requires c = search rules
-
-pub is_white2-requires : goal.is_white2-requires
-is_white2-requires c = search rules
-
-pub is_white3-requires : goal.is_white3-requires
-is_white3-requires c = search rules
-
-pub width_of-requires : goal.width_of-requires
-width_of-requires c = search rules
 
 pub returns : goal.returns
 returns c =

@@ -6,12 +6,6 @@ use Rattle.text.proofs.white.trailing_of.Goals as goal
 pub loop-e-init : goal.loop-e-init
 loop-e-init c = (omega arith, laws.trailing-start c.args.s.now)
 
-pub closing_at-w-requires : goal.closing_at-w-requires
-closing_at-w-requires c = omega arith
-
-pub overflow_sub-result : goal.overflow_sub-result
-overflow_sub-result c = omega arith
-
 pub returns-then-w-eq0 : goal.returns-then-w-eq0
 returns-then-w-eq0 c =
     let l = c.loop-e in
@@ -32,9 +26,6 @@ loop-e-preserved c =
     let l = c.loop-e in
     let a = c.args in
     (omega arith, laws.trailing-turn a.s.now l.e c.closing_at-w.ensures (omega arith) l.invariant.1)
-
-pub overflow_sub-result-2 : goal.overflow_sub-result-2
-overflow_sub-result-2 c = omega arith
 
 pub returns : goal.returns
 returns c =

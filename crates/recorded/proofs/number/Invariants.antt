@@ -1,9 +1,0 @@
--- The place stays within the digits; the measure is what is left of them.
-use Rattle.std.proofs.Common.{◌-◌, ◌≤◌, length}
-use Rattle.recorded.proofs.number.Given as goal
-
-abbrev pub invariant-loop-i : goal.invariant-loop-i
-invariant-loop-i l = l.i ≤ length l.s
-
-abbrev pub decreases-loop-i : goal.decreases-loop-i
-decreases-loop-i l = length l.s - l.i

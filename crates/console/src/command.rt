@@ -1,7 +1,7 @@
 // A line as a command: document 01, 'The session program', and the further lines of `trace`. A word has a row in the table of
 // specs/Command.antt, which says the forms of its fields; `read` is that table in code.
-ghost use Rattle.std.specs.Prelude.{◌≡◌, [], ◌∷◌};
-ghost use Rattle.console.specs.Command.{row_of, session_words, trace_words, word_in, reads_as, command, Fills};
+ghost use Rattle.std.specs.Prelude.{◌≡◌};
+ghost use Rattle.console.specs.Command.{row_of, session_words, trace_words, word_in, command, Fills};
 
 use crate::field;
 use crate::field::Fields;

@@ -68,7 +68,8 @@ fn accepted(head: &Head, numbers: &Numbers, records: usize, t: Outcome) -> Answe
     answer(head, numbers, 0, records, t)
 }
 
-// That of a refused call, by the number that `Answer` has: a datagram is refused for an error of the message crate too.
+// That of a refused call, by the number that `Answer` has: a datagram is refused for an error of the message crate too. Each call makes it where it is refused: for `?` each
+// would want a second function, whose Result the first would take apart.
 fn refused(head: &Head, numbers: &Numbers, number: u32) -> Answer
     ensures { (links searches texts : List ℕ) → result ≡ (refused_by number (held (engine head.now links searches numbers.now texts))).answer }
 {
@@ -451,7 +452,7 @@ pub fn handle_timeout(
     serve_due(head, links, searches, numbers, texts, time, outbox)
 }
 
-// A search: it opens, joins or shares the waiting replies of the names that it matches.
+// A search: it opens, joins or shares the waiting replies of the names that it matches. Time, sender and receiver come one by one, as an owner in C hands them to `on_data`.
 fn on_search(
     head: &Head,
     numbers: &mut Numbers,

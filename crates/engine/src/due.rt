@@ -1,6 +1,6 @@
 // Waiting replies of the lent tables whose time has come, as a timeout sends them: document 01, 'Engine and ledger'. Each function writes from the outbox's first record on and answers the number of records.
 // The contracts cite specs/Records.antt and, for what is written, `Sent` of specs/Layout.antt.
-ghost use Rattle.std.specs.Prelude.{[], ◌∷◌, ◌+◌, ◌*◌, ◌<◌, ◌≤◌, length};
+ghost use Rattle.std.specs.Prelude.{◌+◌, ◌*◌, ◌<◌};
 ghost use Rattle.engine.specs.Records.{flat, reply_records, due_records};
 ghost use Rattle.engine.specs.Layout.{Room, Sent};
 ghost use Rattle.engine.specs.Lent.{names_lent};

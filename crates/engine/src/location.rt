@@ -2,7 +2,7 @@
 // The contracts cite specs/Location.antt.
 ghost use Rattle.std.specs.Prelude.{◌≡◌, ◌+◌, ◌≤◌, ◌<◌, length, drop};
 ghost use Rattle.text.specs.Put.{Put};
-ghost use Rattle.engine.specs.Location.{address_text_max, decimal, decimal_dot, dotted, scheme_end, host_length, Rewrites};
+ghost use Rattle.engine.specs.Location.{address_text_max, decimal, decimal_dot, dotted, host_length, Rewrites};
 
 use crate::buffer::put;
 use text::bytes;

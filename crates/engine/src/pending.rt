@@ -49,7 +49,8 @@ pub struct Asked {
 }
 
 // A search at name i, for which it asks: a reply opens, or the searcher joins the one that waits. `ssdp:all`, which asks for all types, is answered in the name's
-// own type, and any other search in its target.
+// own type, and any other search in its target. It is out of line, so that the loop over the names is short.
+#[inline(never)]
 fn ask_for(numbers: &mut Numbers, texts: &mut Texts, i: usize, search: &Search<'_>) -> Asked
     requires { (i < advertisements_max) × (target_match search.now.target.now (entry_at i numbers.old texts.old).service ≡ true) }
     ensures { (n : ℕ) → i < n → n ≤ advertisements_max → PassOne (asked search.now.due (asked_of search.now)) (matched_by (asked_of search.now)) (joined_by (asked_of search.now)) blank i (entries n numbers.old texts.old) (entries n numbers.new texts.new) result.matched result.joined }

@@ -1,6 +1,6 @@
 // What each call sends, from the outbox's first record on: document 01, 'Outbox'. Each function answers the number of records.
 // The contracts cite specs/Records.antt and, for what is written, `Sent` of specs/Layout.antt. They ask for an outbox with room for that.
-ghost use Rattle.std.specs.Prelude.{cond, [], map, ◌<◌, ◌≤◌, length};
+ghost use Rattle.std.specs.Prelude.{cond, [], map, ◌<◌};
 ghost use Rattle.engine.specs.Records.{flat, byebye_on, refresh_on, all_from, timeout_on, NotifyFrom};
 ghost use Rattle.engine.specs.Layout.{Room, Sent};
 ghost use Rattle.engine.specs.Lent.{names_lent, searches_lent};

@@ -38,7 +38,9 @@ fn at_least(wanted: u64, offered: Option<u64>) -> bool
     offered.is_some_and(|offered| wanted <= offered)
 }
 
-// Whether a candidate has the same text before a colon at place i, and behind it a number that is at least the wanted one.
+// Whether a candidate has the same text before a colon at place i, and behind it a number that is at least the wanted one. It is out of line, so that `bytes::equal`,
+// which decides for the type itself, stands in the loop over the names.
+#[inline(never)]
 fn is_later(search: &[u8], i: usize, wanted: u64, candidate: &[u8]) -> bool
     requires { i < length search.now }
     ensures { result ≡ later_in search.now i wanted candidate.now }

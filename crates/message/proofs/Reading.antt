@@ -5,12 +5,11 @@ use mathlib.Core.List.{List, [], ◌∷◌}
 use Prim.Native.Nat.{ℕ, ◌≤◌}
 use native.Mathlib.Omega.{arith}
 use borrow.Author.Tests.{ne_eqb}
-use lib.Dec.{eqb}
 use lib.ListN.{length, take, drop, get_or}
 use lib.Seq.{length-take-le}
 use Rattle.text.specs.Bytes.{bytes, equal}
 use Rattle.text.specs.Lines.{lines, first_line}
-use Rattle.text.specs.Number.{number, value, max8}
+use Rattle.text.specs.Number.{number, max8}
 use Rattle.text.specs.Utf8.{utf8}
 use Rattle.text.specs.declared.lines.Line.{Line}
 use Rattle.text.specs.declared.white.Place.{Place}
@@ -82,17 +81,17 @@ two f p q = cc
 
 -- the messages read from the table of headers
 module _ (s : List ℕ) (from : ℕ) {h : Headers} (table : listed h ≡ headers_from s from) where
-  pub notify-read : notify_of s h.nts h.nt h.usn h.location ≡ notify_from s from
+  pub notify_read : notify_of s h.nts h.nt h.usn h.location ≡ notify_from s from
   unfolding notify_from keys
-  notify-read = four (notify_of s) (ap (λ (l : List Header). get_or l 3 None) table) (ap (λ (l : List Header). get_or l 0 None) table) (ap (λ (l : List Header). get_or l 4 None) table) (ap (λ (l : List Header). get_or l 5 None) table)
+  notify_read = four (notify_of s) (ap (λ (l : List Header). get_or l 3 None) table) (ap (λ (l : List Header). get_or l 0 None) table) (ap (λ (l : List Header). get_or l 4 None) table) (ap (λ (l : List Header). get_or l 5 None) table)
 
-  pub response-read : response_of h.st h.usn h.location ≡ response_from s from
+  pub response_read : response_of h.st h.usn h.location ≡ response_from s from
   unfolding response_from keys
-  response-read = three response_of (ap (λ (l : List Header). get_or l 1 None) table) (ap (λ (l : List Header). get_or l 4 None) table) (ap (λ (l : List Header). get_or l 5 None) table)
+  response_read = three response_of (ap (λ (l : List Header). get_or l 1 None) table) (ap (λ (l : List Header). get_or l 4 None) table) (ap (λ (l : List Header). get_or l 5 None) table)
 
-  pub search-read : search_of s h.st h.mx ≡ search_from s from
+  pub search_read : search_of s h.st h.mx ≡ search_from s from
   unfolding search_from keys
-  search-read = two (search_of s) (ap (λ (l : List Header). get_or l 1 None) table) (ap (λ (l : List Header). get_or l 2 None) table)
+  search_read = two (search_of s) (ap (λ (l : List Header). get_or l 1 None) table) (ap (λ (l : List Header). get_or l 2 None) table)
 
 -- the message of each first line
 abbrev pub notified : List ℕ → ParseAnswer
@@ -142,11 +141,11 @@ module _ (s : List ℕ) (some : length s ≡ 0 → ⊥) {u : Bool} (encoded : u 
 
     responded-is : response_from s r.next ≡ responded s
     unfolding response_from
-    responded-is = four (λ a b c d. response_of a b c) (look (bytes "ST")) (look (bytes "USN")) (look (bytes "LOCATION")) (look (bytes "ST"))
+    responded-is = three response_of (look (bytes "ST")) (look (bytes "USN")) (look (bytes "LOCATION"))
 
     searched-is : search_from s r.next ≡ searched s
     unfolding search_from
-    searched-is = four (λ a b c d. search_of s a b) (look (bytes "ST")) (look (bytes "MX")) (look (bytes "ST")) (look (bytes "ST"))
+    searched-is = two (search_of s) (look (bytes "ST")) (look (bytes "MX"))
 
     module _ {t : Bool} (a : t ≡ equal first notify_line) where
       pub parsed-notify : {m : ParseAnswer} → t ≡ true → m ≡ notify_from s r.next → m ≡ parsed s

@@ -40,11 +40,6 @@ abbrev pub answer_of : Result Message ParseError → ParseAnswer
 answer_of (Ok message) = reads message
 answer_of (Err error) = refuses (number_of error)
 
--- the same of a datagram that is not empty
-abbrev pub said : Option Message → ParseAnswer
-said (Some message) = reads message
-said None = refuses datagram_invalid
-
 -- "Each field is handed back as the place it occupies in the datagram": what stands at a place
 abbrev pub field_at : List ℕ → Place → List ℕ
 field_at datagram place = take place.len (drop place.start datagram)

@@ -2,8 +2,8 @@
 // Contracts cite specs/Parse.antt, specs/Headers.antt and specs/Build.antt.
 #![tactic(auto)]
 
-ghost use Rattle.std.specs.Prelude.{◌≡◌, ◌≢◌, length, Some};
-ghost use Rattle.message.specs.Parse.{field_at, alive_of, byebye_of, notify_of, response_of, search_of, notify_from, response_from, search_from, parsed, number_of, words_of, said, answer_of};
+ghost use Rattle.std.specs.Prelude.{◌≡◌, Some};
+ghost use Rattle.message.specs.Parse.{field_at, alive_of, byebye_of, notify_of, response_of, search_of, notify_from, response_from, search_from, parsed, number_of, words_of, answer_of};
 
 use crate::headers::Headers;
 use std::error::Error;
@@ -74,85 +74,109 @@ pub fn field(s: &[u8], place: Place) -> &[u8]
     white::part_of(s, place)
 }
 
-// ---- one message each, which has headers and a definition of its own: one function for two of them would take the message as a closure
+// ---- one message each, which has headers and a definition of its own: one function for two of them would take the message as a closure. `let .. else` names the error
+// once, where `ok_or(..)?` would name it at each header.
 
-fn alive_of(h: Headers) -> Option<Message>
-    ensures { said result ≡ alive_of h.nt h.usn h.location }
+fn alive_of(h: &Headers) -> Result<Message, ParseError>
+    ensures { answer_of result ≡ alive_of h.now.nt h.now.usn h.now.location }
 {
-    Some(Message::NotifyAlive {
-        notification_type: h.nt?,
-        unique_service_name: h.usn?,
-        location: h.location?,
+    let (Some(notification_type), Some(unique_service_name), Some(location)) = (
+        h.nt, h.usn, h.location,
+    ) else {
+        return Err(ParseError::Invalid);
+    };
+    Ok(Message::NotifyAlive {
+        notification_type,
+        unique_service_name,
+        location,
     })
 }
 
-fn byebye_of(h: Headers) -> Option<Message>
-    ensures { said result ≡ byebye_of h.nt h.usn }
+fn byebye_of(h: &Headers) -> Result<Message, ParseError>
+    ensures { answer_of result ≡ byebye_of h.now.nt h.now.usn }
 {
-    Some(Message::NotifyByeBye {
-        notification_type: h.nt?,
-        unique_service_name: h.usn?,
+    let (Some(notification_type), Some(unique_service_name)) = (h.nt, h.usn) else {
+        return Err(ParseError::Invalid);
+    };
+    Ok(Message::NotifyByeBye {
+        notification_type,
+        unique_service_name,
     })
 }
 
 #[tactic(auto, unfolding(text::specs::Bytes::bytes))]
-fn notify_of(s: &[u8], h: Headers) -> Option<Message>
-    ensures { said result ≡ notify_of s.now h.nts h.nt h.usn h.location }
+fn notify_of(s: &[u8], h: &Headers) -> Result<Message, ParseError>
+    ensures { answer_of result ≡ notify_of s.now h.now.nts h.now.nt h.now.usn h.now.location }
 {
-    let nts = field(s, h.nts?);
+    let Some(nts) = h.nts else {
+        return Err(ParseError::Invalid);
+    };
+    let nts = field(s, nts);
     if bytes::equal(nts, b"ssdp:alive") {
         return alive_of(h);
     }
     if bytes::equal(nts, b"ssdp:byebye") {
         return byebye_of(h);
     }
-    None
+    Err(ParseError::Invalid)
 }
 
-fn response_of(h: Headers) -> Option<Message>
-    ensures { said result ≡ response_of h.st h.usn h.location }
+fn response_of(h: &Headers) -> Result<Message, ParseError>
+    ensures { answer_of result ≡ response_of h.now.st h.now.usn h.now.location }
 {
-    Some(Message::Response {
-        search_target: h.st?,
-        unique_service_name: h.usn?,
-        location: h.location?,
+    let (Some(search_target), Some(unique_service_name), Some(location)) = (h.st, h.usn, h.location)
+    else {
+        return Err(ParseError::Invalid);
+    };
+    Ok(Message::Response {
+        search_target,
+        unique_service_name,
+        location,
     })
 }
 
-fn search_of(s: &[u8], h: Headers) -> Option<Message>
-    ensures { said result ≡ search_of s.now h.st h.mx }
+fn search_of(s: &[u8], h: &Headers) -> Result<Message, ParseError>
+    ensures { answer_of result ≡ search_of s.now h.now.st h.now.mx }
 {
-    Some(Message::Search {
-        search_target: h.st?,
-        maximum_wait_sec: number::parse::<u8>(field(s, h.mx?))?,
+    let (Some(search_target), Some(mx)) = (h.st, h.mx) else {
+        return Err(ParseError::Invalid);
+    };
+    let Some(maximum_wait_sec) = number::parse::<u8>(field(s, mx)) else {
+        return Err(ParseError::Invalid);
+    };
+    Ok(Message::Search {
+        search_target,
+        maximum_wait_sec,
     })
 }
 
-// The message of a datagram that is not empty, by its first line and the headers of the lines behind it. A first line of no kind needs no look at the headers.
-fn message_in(buf: &[u8]) -> Option<Message>
-    requires { length buf.now ≢ 0 }
-    ensures { said result ≡ parsed buf.now }
+// ---- the same from the lines from `from` on. Each is out of line: `parse` would else clear the stack for three tables of headers at each datagram.
+
+#[inline(never)]
+#[tactic(auto, using(crate::proofs::Reading::notify_read))]
+fn notify_from(s: &[u8], from: usize) -> Result<Message, ParseError>
+    ensures { answer_of result ≡ notify_from s.now from }
 {
-    if !utf8::is_utf8(buf) {
-        return None;
-    }
-    let line = lines::first_line(buf);
-    let len = line.len;
-    let next = line.next;
-    let first = &buf[..len];
-    if bytes::equal(first, b"NOTIFY * HTTP/1.1") {
-        return notify_of(buf, headers::headers_from(buf, next));
-    }
-    if bytes::equal(first, b"HTTP/1.1 200 OK") {
-        return response_of(headers::headers_from(buf, next));
-    }
-    if bytes::equal(first, b"M-SEARCH * HTTP/1.1") {
-        return search_of(buf, headers::headers_from(buf, next));
-    }
-    None
+    notify_of(s, &headers::headers_from(s, from))
 }
 
-// The message of a datagram, if it is one.
+#[inline(never)]
+#[tactic(auto, using(crate::proofs::Reading::response_read))]
+fn response_from(s: &[u8], from: usize) -> Result<Message, ParseError>
+    ensures { answer_of result ≡ response_from s.now from }
+{
+    response_of(&headers::headers_from(s, from))
+}
+
+#[inline(never)]
+#[tactic(auto, using(crate::proofs::Reading::search_read))]
+fn search_from(s: &[u8], from: usize) -> Result<Message, ParseError>
+    ensures { answer_of result ≡ search_from s.now from }
+{
+    search_of(s, &headers::headers_from(s, from))
+}
+
+// The message of a datagram, if it is one. A first line of no kind needs no look at the headers.
 #[tactic(auto, using(crate::proofs::Reading::is_empty))]
 pub fn parse(buf: &[u8]) -> Result<Message, ParseError>
     ensures { answer_of result ≡ parsed buf.now }
@@ -160,7 +184,23 @@ pub fn parse(buf: &[u8]) -> Result<Message, ParseError>
     if buf.is_empty() {
         return Err(ParseError::Empty);
     }
-    message_in(buf).ok_or(ParseError::Invalid)
+    if !utf8::is_utf8(buf) {
+        return Err(ParseError::Invalid);
+    }
+    let line = lines::first_line(buf);
+    let len = line.len;
+    let next = line.next;
+    let first = &buf[..len];
+    if bytes::equal(first, b"NOTIFY * HTTP/1.1") {
+        return notify_from(buf, next);
+    }
+    if bytes::equal(first, b"HTTP/1.1 200 OK") {
+        return response_from(buf, next);
+    }
+    if bytes::equal(first, b"M-SEARCH * HTTP/1.1") {
+        return search_from(buf, next);
+    }
+    Err(ParseError::Invalid)
 }
 
 // Document 01's number for an answer: 0 for a message, else its refusal. A host's answers are numbers, and 0 is an accepted one's there.

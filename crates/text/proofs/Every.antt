@@ -2,10 +2,10 @@
 use mathlib.Core.Path.{◌≡◌, refl, sym, ◌∙◌, ap}
 use mathlib.Core.Bool.{Bool, true, false, ◌&&◌, and_assoc, and-true}
 use mathlib.Core.List.{List, [], ◌∷◌, ◌++◌}
-use Prim.Native.Nat.{ℕ, zero, suc, ◌+◌, ◌-◌, ◌*◌, ◌≤◌, ◌<◌}
+use Prim.Native.Nat.{ℕ, zero, suc, ◌+◌, ◌-◌, ◌*◌, ◌/◌, ◌≤◌, ◌<◌}
 use native.Mathlib.Numerals.{add-one}
 use native.Mathlib.Omega.{arith}
-use lib.ListN.{length, take, drop, get_or, drop_of_length-le, length-drop, take-append-drop}
+use lib.ListN.{length, take, drop, get_or, drop_of_length-le, take-append-drop}
 use lib.Seq.{drop-cons, drop-drop}
 use Rattle.std.specs.Simd.{first_chunks}
 use Rattle.text.specs.Range.{every}
@@ -55,8 +55,8 @@ module _ (f : ℕ → Bool) where
       (every-split last (k - length left) ∙ ap (λ (l : List ℕ). every f (take (k - length left) last) && every f l) (sym w)) p)
 
 -- block i of those of 16 bytes, and what is left behind it
-pub block_at : (s : List ℕ) (n i : ℕ) {blocks : List (List ℕ)} → blocks ≡ first_chunks 16 n s → i < n → get_or blocks i [] ≡ take 16 (drop (16 * i) s)
-block_at s n i e h = ap (λ (l : List (List ℕ)). get_or l i []) e ∙ go s n i h
+pub block_at : (s : List ℕ) (i : ℕ) {blocks : List (List ℕ)} → blocks ≡ first_chunks 16 (length s / 16) s → length blocks ≡ length s / 16 → i < length blocks → get_or blocks i [] ≡ take 16 (drop (16 * i) s)
+block_at s i e n h = ap (λ (l : List (List ℕ)). get_or l i []) e ∙ go s (length s / 16) i (omega (arith, n, h))
   where
     go : (t : List ℕ) (n m : ℕ) → m < n → get_or (first_chunks 16 n t) m [] ≡ take 16 (drop (16 * m) t)
     go t zero m h = absurd (omega arith)

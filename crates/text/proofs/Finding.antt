@@ -2,16 +2,16 @@
 use mathlib.Core.Path.{◌≡◌, refl, sym, ◌∙◌, ap}
 use mathlib.Core.Bool.{Bool, true, false, cond, not, ◌&&◌, ◌||◌, and-eq-true_iff}
 use mathlib.Core.List.{List, [], ◌∷◌}
-use Prim.Native.Nat.{ℕ, zero, suc, ◌+◌, ◌-◌, ◌≤◌, ◌<◌}
+use Prim.Native.Nat.{ℕ, zero, suc, ◌+◌, ◌-◌, ◌*◌, ◌≤◌, ◌<◌}
 use native.Mathlib.Omega.{arith}
 use borrow.Author.Tests.{eqb-true, eqb-false, eq-eqb, ne_eqb, lt-ltb, le-ltb, not-true}
 use lib.Dec.{eqb, ltb}
-use lib.ListN.{length, take, drop, get_or, length-drop}
-use lib.Seq.{get_or-drop, take-length, drop-length, take_all}
+use lib.ListN.{length, take, drop, get_or, drop_of_length-le, length-drop, length-take}
+use lib.Seq.{drop-drop, get_or-drop, take-length, drop-length, take_all}
 use Rattle.std.specs.Prelude.{Option, Some, None, IfSome, IfNone, MatchOption}
-use Rattle.std.specs.List.{list_any}
-use Rattle.memchr.specs.Find.{IsFirstByte, IsLastByte, is_byte}
+use Rattle.std.specs.List.{list_any, prefix_len}
 use Rattle.text.specs.Range.{every}
+use Rattle.text.proofs.Every.{behind_block}
 use Rattle.text.specs.Bytes.{lacks, first_place, headed, index_of, last_index_of, index_of_text, starts_with}
 
 shorter : (t : Bool) (n m : ℕ) → n ≤ m → cond t 0 (suc n) ≤ suc m
@@ -23,6 +23,35 @@ module _ (f : List ℕ → Bool) where
   unfolding first_place
   place-le [] = omega arith
   place-le (a ∷ s) = shorter (f (a ∷ s)) (first_place f s) (length s) (place-le s)
+
+  at_front : (s : List ℕ) → 0 < length s → f s ≡ true → first_place f s ≡ 0
+  unfolding first_place
+  at_front [] h e = absurd (omega arith)
+  at_front (a ∷ s) h e = ap (λ (t : Bool). cond t 0 (suc (first_place f s))) e
+
+  behind : (s : List ℕ) → 0 < length s → f s ≡ false → first_place f s ≡ suc (first_place f (drop 1 s))
+  unfolding first_place
+  behind [] h e = absurd (omega arith)
+  behind (a ∷ s) h e = ap (λ (t : Bool). cond t 0 (suc (first_place f s))) e
+
+  -- a turn of a loop over places, as it stops, goes on and ends
+  module _ (s : List ℕ) (i : ℕ) where
+    pub place_here : i < length s → f (drop i s) ≡ true → first_place f s ≡ i + first_place f (drop i s) → first_place f s ≡ i
+    place_here h e p =
+        let q : first_place f (drop i s) ≡ 0 = at_front (drop i s) (omega (arith, length-drop i s)) e in
+        omega (arith, p, q)
+
+    pub place-next : i < length s → f (drop i s) ≡ false → first_place f s ≡ i + first_place f (drop i s) → first_place f s ≡ i + 1 + first_place f (drop (i + 1) s)
+    place-next h e p =
+        let q : first_place f (drop i s) ≡ suc (first_place f (drop 1 (drop i s))) = behind (drop i s) (omega (arith, length-drop i s)) e in
+        let r : first_place f (drop 1 (drop i s)) ≡ first_place f (drop (i + 1) s) = ap (first_place f) (drop-drop 1 i s) in
+        omega (arith, p, q, r)
+
+    pub place_none : length s ≤ i → first_place f s ≡ i + first_place f (drop i s) → first_place f s ≡ i
+    unfolding first_place
+    place_none h p =
+        let q : first_place f (drop i s) ≡ 0 = ap (first_place f) (drop_of_length-le s h) in
+        omega (arith, p, q)
 
 -- the byte at place i is the first of what follows
 first_of : (s : List ℕ) (i : ℕ) → get_or (drop i s) 0 0 ≡ get_or s i 0
@@ -142,23 +171,52 @@ module _ (f : List ℕ → Bool) where
   no_place [] n = refl
   no_place (a ∷ s) n = rw (n 0 (omega arith)) (ap suc (no_place s (λ k g. n (suc k) (omega arith))))
 
--- a place that is the first of b, or the last, or that there is none
-pub index_of-at : (b : ℕ) (s : List ℕ) (r : Option ℕ) → IsFirstByte (is_byte b) s r → record { some : IfSome r (λ i. (i ≡ index_of b s) × (i < length s)); none : IfNone r (index_of b s ≡ length s) }
-unfolding index_of
-index_of-at b s None h = record { some = tt; none = no_place (headed b) s (λ k g. headed-not s k b (λ e. h k (omega arith) g (eq-eqb _ b e))) }
-index_of-at b s (Some i) h =
-    record {
-      some = (sym (place-is (headed b) s i h.0.high (headed-is s i b (eqb-true _ b h.1)) (λ k g. headed-not s k b (λ e. h.0.before k (omega arith) g (eq-eqb _ b e)))), h.0.high);
-      none = tt;
-    }
+-- how many bytes come before b
+pub prefix-is : (b : ℕ) (s : List ℕ) → prefix_len (λ (x : ℕ). not (eqb x b)) s ≡ index_of b s
+unfolding index_of first_place
+prefix-is b [] = refl
+prefix-is b (a ∷ s) = rw (prefix-is b s) (go (eqb a b))
+  where
+    go : (t : Bool) → cond (not t) (1 + index_of b s) 0 ≡ cond t 0 (suc (index_of b s))
+    go true = refl
+    go false = omega arith
 
-pub last_index_of-at : (b : ℕ) (s : List ℕ) (r : Option ℕ) → IsLastByte (is_byte b) s r → record { some : IfSome r (λ i. (i ≡ last_index_of b s) × (i < length s)); none : IfNone r (last_index_of b s ≡ length s) }
-last_index_of-at b s None h = record { some = tt; none = last_index_of-none b s (λ k z g e. h k z g (eq-eqb _ b e)) }
-last_index_of-at b s (Some i) h =
-    record {
-      some = (sym (last_index_of-is b s i h.0.high (eqb-true _ b h.1) (λ k g j e. h.0.after k (omega arith) j (eq-eqb _ b e))), h.0.high);
-      none = tt;
-    }
+-- a front of k bytes that has b decides; one that has none is passed as a whole
+index_of-front : (b k : ℕ) (s : List ℕ) → index_of b (take k s) < length (take k s) → index_of b s ≡ index_of b (take k s)
+unfolding index_of first_place
+index_of-front b zero s h = absurd (omega arith)
+index_of-front b (suc k) [] h = absurd (omega arith)
+index_of-front b (suc k) (a ∷ s) h = go (eqb a b) (index_of-front b k s) h
+  where
+    go : (t : Bool) → (index_of b (take k s) < length (take k s) → index_of b s ≡ index_of b (take k s)) → cond t 0 (suc (index_of b (take k s))) < suc (length (take k s))
+        → cond t 0 (suc (index_of b s)) ≡ cond t 0 (suc (index_of b (take k s)))
+    go true e g = refl
+    go false e g = ap suc (e (omega arith))
+
+index_of-behind : (b k : ℕ) (s : List ℕ) → k ≤ length s → k ≤ index_of b (take k s) → index_of b s ≡ k + index_of b (drop k s)
+unfolding index_of first_place
+index_of-behind b zero s g h = omega arith
+index_of-behind b (suc k) [] g h = absurd (omega arith)
+index_of-behind b (suc k) (a ∷ s) g h = go (eqb a b) (index_of-behind b k s (omega arith)) h
+  where
+    go : (t : Bool) → (k ≤ index_of b (take k s) → index_of b s ≡ k + index_of b (drop k s)) → suc k ≤ cond t 0 (suc (index_of b (take k s)))
+        → cond t 0 (suc (index_of b s)) ≡ suc k + index_of b (drop k s)
+    go true e g = absurd (omega arith)
+    go false e g = omega (arith, e (omega arith))
+
+-- block i of those of 16 bytes, where none before it has b
+module _ (b : ℕ) (s : List ℕ) (i : ℕ) {block : List ℕ} (at : block ≡ take 16 (drop (16 * i) s)) (inside : 16 * (i + 1) ≤ length s) (before : index_of b s ≡ 16 * i + index_of b (drop (16 * i) s)) where
+  pub block-found : {k : ℕ} → k ≡ index_of b block → k < 16 → 16 * i + k ≡ index_of b s
+  block-found e h =
+      let q : index_of b (drop (16 * i) s) ≡ index_of b (take 16 (drop (16 * i) s)) =
+      index_of-front b 16 (drop (16 * i) s) (omega (arith, e, ap (index_of b) at, length-take 16 (drop (16 * i) s), length-drop (16 * i) s)) in
+      omega (arith, before, q, e, ap (index_of b) at)
+
+  pub block-passed : {k : ℕ} → k ≡ index_of b block → 16 ≤ k → index_of b s ≡ 16 * (i + 1) + index_of b (drop (16 * (i + 1)) s)
+  block-passed e h =
+      let q : index_of b (drop (16 * i) s) ≡ 16 + index_of b (drop 16 (drop (16 * i) s)) =
+      index_of-behind b 16 (drop (16 * i) s) (omega (arith, length-drop (16 * i) s)) (omega (arith, e, ap (index_of b) at)) in
+      omega (arith, before, q, ap (index_of b) (behind_block s i))
 
 pub index_of_text-at : (p s : List ℕ) (r : Option ℕ)
     → MatchOption r ((k : ℕ) → 0 ≤ k → k < length s → starts_with p (take (length s - k) (drop k s)) ≡ false)

@@ -2,12 +2,11 @@
 -- the whole.
 use mathlib.Core.Path.{◌≡◌, sym, ◌∙◌, ap, subst}
 use mathlib.Core.List.{List, [], ◌++◌, append_assoc, append-nil}
-use Prim.Native.Nat.{ℕ, ◌+◌, ◌-◌, ◌≤◌, ◌<◌}
+use Prim.Native.Nat.{ℕ, ◌+◌, ◌-◌, ◌≤◌}
 use native.Mathlib.Omega.{arith}
 use native.Mathlib.Nat.{add-zero}
-use native.Mathlib.Numerals.{add-one}
-use lib.ListN.{length, take, drop, set, get_or, length-append, length-drop, drop_of_length-le, take-append-drop}
-use lib.Seq.{paste, paste-suc, take_at, drop_at, drop-append-add, drop-drop, take-length, length-take-le, take-append-le, take-take, take_all}
+use lib.ListN.{length, take, drop, length-append, length-drop, drop_of_length-le, take-append-drop}
+use lib.Seq.{take_at, drop_at, drop-append-add, drop-drop, length-take-le, take-append-le, take-take, take_all}
 use borrow.Rule.Slice.PartMut.{put_mid}
 use Rattle.text.specs.Put.{overwritten, Put}
 
@@ -19,19 +18,6 @@ middle b t at {k} {d} n e =
     ∙ ap (λ (j : ℕ). put_mid at j b t) n
     ∙ ap (λ (l : List ℕ). take at b ++ (t ++ l)) (drop-drop (length t) at b)
     ∙ sym (append_assoc (take at b) t (drop (at + length t) b))
-
--- one turn of a loop that copies `text` to `at`
-pub turn : (buffer after text : List ℕ) (at i next : ℕ) → next ≡ at + i → at + i < length buffer → i < length text → after ≡ paste buffer at text i
-    → set after next (get_or text i 0) ≡ paste buffer at text (i + 1)
-turn buffer after text at i next e h g p =
-    ap (λ (l : List ℕ). set l next (get_or text i 0)) p ∙ ap (λ (k : ℕ). set (paste buffer at text i) k (get_or text i 0)) e
-    ∙ paste-suc buffer at text i 0 h g ∙ ap (paste buffer at text) (sym (add-one i))
-
--- and its end
-pub copied : (buffer after text : List ℕ) (at i : ℕ) → i ≡ length text → after ≡ paste buffer at text i → after ≡ overwritten buffer at text
-unfolding overwritten
-copied buffer after text at i e p =
-    p ∙ ap (paste buffer at text) e ∙ ap (λ (l : List ℕ). take at buffer ++ l ++ drop (at + length text) buffer) (take-length text)
 
 -- nothing written
 pub nothing : (b : List ℕ) (at : ℕ) → Put b at [] b at

@@ -3,8 +3,8 @@
 ghost use Rattle.std.specs.Prelude.{◌≡◌, ◌<◌, length, get_or, IfSome, IfNone};
 ghost use Rattle.text.specs.Bytes.{lacks, upper, equal, equal_upper, order, index_of, last_index_of, starts_with, index_of_text};
 
-use memchr::{memchr, memrchr};
 use std::cmp::Ordering;
+use std::simd::prelude::*;
 
 // The byte at `i`, 0 past the end, as the definitions' `get_or` has it.
 pub fn byte_at(s: &[u8], i: usize) -> u8
@@ -48,20 +48,51 @@ pub fn lacks(s: &[u8], b: u8) -> bool
     !s.contains(&b)
 }
 
-// The first place of `b`.
+// The first place of `b` in a block of 16 bytes, which are compared at once; 16 if it has none, as the definition says of a text: of an Option two clauses would say the same.
+fn place_in(block: &[u8; 16], b: u8) -> usize
+    ensures { result ≡ index_of b block.now }
+{
+    let places = u8x16::from_array(*block)
+        .simd_eq(u8x16::splat(b))
+        .to_bitmask();
+    if places == 0 {
+        return 16;
+    }
+    places.trailing_zeros() as usize
+}
+
+// The first place of `b`: by blocks, and in what these leave byte by byte. With the kit's `memchr`, which goes byte by byte through less than 32 bytes, as a line mostly
+// has, a search misses its goal of speed (docs/BENCHMARKS.md).
 pub fn find(s: &[u8], b: u8) -> Option<usize>
     ensures some { IfSome result (λ i. (i ≡ index_of b s.now) × (i < length s.now)) }
     ensures none { IfNone result (index_of b s.now ≡ length s.now) }
 {
-    memchr(b, s)
+    let (blocks, _) = s.as_chunks::<16>();
+    for (i, block) in blocks.iter().enumerate() {
+        let k = place_in(block, b);
+        if k < 16 {
+            return Some(16 * i + k);
+        }
+    }
+    for i in 16 * blocks.len()..s.len() {
+        if s[i] == b {
+            return Some(i);
+        }
+    }
+    None
 }
 
-// The last place of `b`.
+// The last place of `b`. The loop stands for `rposition`, whose clause speaks of calls from the back: the proof did not close.
 pub fn find_last(s: &[u8], b: u8) -> Option<usize>
     ensures some { IfSome result (λ i. (i ≡ last_index_of b s.now) × (i < length s.now)) }
     ensures none { IfNone result (last_index_of b s.now ≡ length s.now) }
 {
-    memrchr(b, s)
+    for i in (0..s.len()).rev() {
+        if s[i] == b {
+            return Some(i);
+        }
+    }
+    None
 }
 
 // Whether `s` starts with `p`.

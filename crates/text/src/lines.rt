@@ -1,5 +1,5 @@
 // Lines (document 01, 'Text rules').
-ghost use Rattle.std.specs.Prelude.{◌≡◌, length, take, ◌<◌};
+ghost use Rattle.std.specs.Prelude.{◌≡◌, length};
 ghost use Rattle.text.specs.Lines.{first_line, without};
 
 use crate::bytes;

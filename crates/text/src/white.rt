@@ -48,6 +48,7 @@ fn begin(tail: u8, a: u8, b: u8) -> bool
     (l.tail == tail) & l.admits(b)
 }
 
+// Whether a character of one byte, of two or of three is white space: each has its code point from other bits.
 fn is_white1(a: u8) -> bool
     ensures { result ≡ white1 a }
 {

@@ -1,5 +1,5 @@
 -- `good::is_visible`: a block that is not visible ends it; behind the whole blocks the last one decides.
-use Prim.Native.Nat.{ℕ, ◌*◌, ◌-◌, ◌<◌, ◌/◌}
+use Prim.Native.Nat.{ℕ, ◌*◌, ◌-◌, ◌<◌}
 use lib.ListN.{length, drop, length-drop}
 use native.Mathlib.Omega.{arith}
 use mathlib.Core.Path.{◌≡◌, sym, ◌∙◌, ap}
@@ -12,7 +12,7 @@ returns-then-not-all_visible c =
     let s = c.args.s.now in
     let i = c.loop-block.block-index in
     let p = c.as_chunks.ensures in
-    laws.block_fails visible s (drop (16 * i) s) 16 (laws.block_at s (length s / 16) i p.front (omega (arith, p.front_len, c.loop-block-test.true))) c.loop-block.invariant
+    laws.block_fails visible s (drop (16 * i) s) 16 (laws.block_at s i p.front p.front_len c.loop-block-test.true) c.loop-block.invariant
     (sym c.all_visible-in-loop-block.ensures ∙ c.if-not-all_visible.true)
 
 pub loop-block-preserved : goal.loop-block-preserved
@@ -20,7 +20,7 @@ loop-block-preserved c =
     let s = c.args.s.now in
     let i = c.loop-block.block-index in
     let p = c.as_chunks.ensures in
-    laws.block_passes visible s (drop (16 * i) s) 16 (laws.block_at s (length s / 16) i p.front (omega (arith, p.front_len, c.loop-block-test.true))) c.loop-block.invariant
+    laws.block_passes visible s (drop (16 * i) s) 16 (laws.block_at s i p.front p.front_len c.loop-block-test.true) c.loop-block.invariant
     (laws.behind_block s i) (sym c.all_visible-in-loop-block.ensures ∙ c.if-not-all_visible.false)
 
 pub returns : goal.returns

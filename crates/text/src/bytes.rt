@@ -1,5 +1,5 @@
 // Comparing texts and finding in them: keys ('Messages'), names ('Outbox'), the last colon and the first `://`
-// ('target_match' and 'rewrite_host').
+// ('target_match' and 'rewrite_host'). What is one call of the library stands here for its clause, which says which definition the library's function is.
 ghost use Rattle.std.specs.Prelude.{◌≡◌, ◌<◌, length, get_or, IfSome, IfNone};
 ghost use Rattle.text.specs.Bytes.{lacks, upper, equal, equal_upper, order, index_of, last_index_of, starts_with, index_of_text};
 
@@ -82,7 +82,7 @@ pub fn find(s: &[u8], b: u8) -> Option<usize>
     None
 }
 
-// The last place of `b`. The loop stands for `rposition`, whose clause speaks of calls from the back: the proof did not close.
+// The last place of `b`, looked for from the end.
 pub fn find_last(s: &[u8], b: u8) -> Option<usize>
     ensures some { IfSome result (λ i. (i ≡ last_index_of b s.now) × (i < length s.now)) }
     ensures none { IfNone result (last_index_of b s.now ≡ length s.now) }

@@ -46,7 +46,7 @@ pub trait Width: Sized {
     ghost reads_none: { None ≡ read None };
 }
 
-// The four are written out: an impl that a macro of ours writes is none that the check takes.
+// The four are written out: an impl that a macro of ours writes is none that the check takes. A constant is widened by `as`, since `From` is not const.
 impl Width for u8 {
     ghost LARGEST = { max8 };
 

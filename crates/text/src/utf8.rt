@@ -45,7 +45,7 @@ pub fn lead_of(b: u8) -> Lead
     }
 }
 
-// Whether every byte of a text is a character by itself.
+// Whether every byte of a text is a character by itself. One call, for its clause, as in bytes.rt.
 fn is_ascii(s: &[u8]) -> bool
     ensures { result ≡ every ascii s.now }
 {

@@ -1,5 +1,5 @@
 -- Laws of a line as a command: the fields of its word's row are read one after the other, as far as they can be read.
-use mathlib.Core.Path.{◌≡◌, refl, sym, ◌∙◌}
+use mathlib.Core.Path.{◌≡◌, refl, sym, ◌∙◌, subst}
 use mathlib.Core.List.{List, [], ◌∷◌}
 use Prim.Native.Nat.{ℕ, ◌+◌}
 use Rattle.std.proofs.Common.{Option, Some, None}
@@ -26,6 +26,10 @@ module _ {form : Form} {forms : List Form} {f : Taking (form ∷ forms)} {s s' :
   pub next : {s'' : Fields} {x : Of form} {r : Option Command} → Reads form s s' (Some x) → ReadsAll forms (f x) s' s'' r → ReadsAll (form ∷ forms) f s s'' r
   unfolding reads
   next {s''} {x} {r} t u = record { line = u.line ∙ t.line; reads = rw (sym t.field, sym t.next) (rw t.line at u.reads) }
+
+-- the word is known
+pub of_word : {w w' : Word} {s s' : Fields} {r : Option Command} → w ≡ w' → ReadsAll (row_of w').forms (row_of w').gives s s' r → ReadsAll (row_of w).forms (row_of w).gives s s' r
+of_word {s = s} {s'} {r} p t = subst (λ (v : Word). ReadsAll (row_of v).forms (row_of v).gives s s' r) (sym p) t
 
 -- the command of a line whose word ends at byte n
 module _ (words : List Word) (line : List ℕ) {n : ℕ} (end : n ≡ index_of 9 line) where

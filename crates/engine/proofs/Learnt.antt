@@ -1,5 +1,5 @@
--- What each of the engine's twelve functions gives whoever calls it (`Learnt`, which Rattle makes of the source) is what Functions says of it, to the letter: an edit of a contract in src/
--- that said less or more would be refused here.
+-- What each of the engine's twelve functions gives whoever calls it (`Learnt`, which Rattle makes of the source) is what Functions says of it, to the letter: an edit of what a contract in src/ ensures
+-- would be refused here. `Learnt` holds no `requires`; that none of them has one is seen by .ci/same-clauses.
 use mathlib.Core.Path.{◌≡◌, refl}
 use Rattle.engine.proofs.Contracts.{Contracts}
 use Rattle.engine.proofs.Functions.{functions}

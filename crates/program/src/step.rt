@@ -2,6 +2,8 @@
 // the front of a buffer, and says how long it is.
 ghost use Rattle.std.specs.Prelude.{◌≡◌, ◌&&◌, ◌≤◌, IsSome, eqb, leb, length, take};
 ghost use Rattle.console.specs.Command.{outbox_max};
+ghost use Rattle.dialogue.specs.Outbox.{record_at};
+ghost use Rattle.dialogue.specs.Printing.{record_line};
 ghost use Rattle.engine.specs.Owned.{engine_in};
 ghost use Rattle.program.specs.Program.{stain};
 ghost use Rattle.program.specs.Steps.{piece_max, used_by, Replies, Ready, Takes, Finishes, PrintsPiece};
@@ -129,6 +131,14 @@ fn say_stain(out: &mut [u8], lent: &[u8], n: usize) -> usize
     buffer::append(out, 0, b"!\n")
 }
 
+// The line of the record that is printed next.
+fn say_record(out: &mut [u8], lent: &[u8], due: Printing) -> usize
+    requires { piece_max ≤ length out.old }
+    ensures { take result out.new ≡ record_line (record_at due.next lent.now) }
+{
+    record::append_record(out, 0, record::record_at(lent, due.next))
+}
+
 // Prints the next piece of what is due of an answer: a record, or behind the last whether a call wrote what it should not.
 pub fn print_due(s: State, outbox: &[u8], out: &mut [u8]) -> Step
     ensures { IsSome s.printing → piece_max ≤ length out.old → PrintsPiece s outbox.now result.state (take result.len out.new) }
@@ -160,6 +170,6 @@ pub fn print_due(s: State, outbox: &[u8], out: &mut [u8]) -> Step
             ..s
         },
         used: 0,
-        len: record::append_record(out, 0, record::record_at(lent, due.next)),
+        len: say_record(out, lent, due),
     }
 }

@@ -91,30 +91,51 @@ fn read_all(
     state
 }
 
-// The input has ended.
-fn on_end(to: Stdout, s: State, arrays: &mut Arrays, line: &[u8], outbox: &mut [u8], out: &mut [u8])
+// The input has ended: what is left of it is handed on, and its answer told to the end.
+fn on_end(
+    to: Stdout,
+    s: State,
+    arrays: &mut Arrays,
+    line: &[u8],
+    outbox: &mut [u8],
+    out: &mut [u8],
+) -> State
     requires { Ready s line.now outbox.old out.old }
+    ensures { (result.held ≡ 0) × (result.printing ≡ None) }
 {
     let step = step::finish(s, arrays, line, outbox, out);
     write(to, out, step.len);
-    print_due(to, step.state, outbox, out);
+    print_due(to, step.state, outbox, out)
 }
 
-// From the first byte of standard input to its end.
+// From the first byte of standard input to its end, with what `run` lends.
+fn serve(
+    from: &mut Stdin,
+    to: Stdout,
+    traced: bool,
+    arrays: &mut Arrays,
+    line: &mut [u8; LINE_SIZE],
+    outbox: &mut [u8; OUTBOX_MAX],
+    out: &mut [u8; BUFFER_SIZE],
+) {
+    let start = state::start(traced);
+    let last = read_all(from, to, start, arrays, line, outbox, out);
+    on_end(to, last, arrays, line, outbox, out);
+}
+
+// From the first byte of standard input to its end. The arrays are made here and lent to a function that knows of each its length alone.
 pub fn run(from: &mut Stdin, to: Stdout, traced: bool) {
     let mut arrays = Arrays::new();
     let mut outbox = [0; OUTBOX_MAX];
     let mut line = [0; LINE_SIZE];
     let mut out = [0; BUFFER_SIZE];
-    let start = state::start(traced);
-    let last = read_all(
+    serve(
         from,
         to,
-        start,
+        traced,
         &mut arrays,
         &mut line,
         &mut outbox,
         &mut out,
     );
-    on_end(to, last, &mut arrays, &line, &mut outbox, &mut out);
 }

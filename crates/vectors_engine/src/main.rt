@@ -11,61 +11,52 @@ use std::alloc::{AllocError, Global};
 use std::io;
 
 // The call of a line: its letter, its numbers and its texts.
-#[derive(Drop)]
+#[derive(Clone, Copy)]
 struct Call<'a> {
-    letter: &'a [u8],
-    numbers: Vec<u64>,
-    texts: Vec<Vec<u8>>,
+    letter: u8,
+    numbers: [u64; 4],
+    texts: [&'a [u8]; 3],
 }
 
-impl Call<'_> {
-    // A number of the call; nothing where it has fewer, or it is too large.
-    fn number<T: TryFrom<u64>>(&self, k: usize) -> Option<T>
-    where
-        T::Error: Drop,
-    {
-        T::try_from(*self.numbers.get(k)?).ok()
-    }
-
-    // A text of the call; nothing where it has fewer.
-    fn text(&self, k: usize) -> Option<&[u8]> {
-        self.texts.get(k).map(|text| text.as_slice())
-    }
-
-    fn sender(&self) -> Option<Endpoint> {
-        Some(Endpoint {
-            address: self.number(1)?,
-            port: self.number(2)?,
-        })
-    }
-}
-
-// What the engine answers to news of a link or an address; nothing where the call is none of it.
-fn news(arrays: &mut Arrays, call: &Call, outbox: &mut [u8]) -> Option<Answer> {
-    let index = call.number(0)?;
+// What the engine answers to news of a link or an address; nothing where the call is none of it, or a number is too large.
+fn news(arrays: &mut Arrays, call: Call, outbox: &mut [u8]) -> Option<Answer> {
+    let [address, ..] = call.texts;
+    let [index, second, third, _] = call.numbers;
+    let index = u32::try_from(index).ok()?;
+    let second = u32::try_from(second).ok()?;
+    let third = u32::try_from(third).ok()?;
     Some(match call.letter {
-        b"l" => arrays.new_link(index, call.number(1)?, call.number(2)?, outbox),
-        b"d" => arrays.deleted_link(index, call.number(1)?),
-        b"a" => arrays.new_address(index, call.text(0)?, outbox),
-        b"x" => arrays.deleted_address(index, call.text(0)?),
+        b'l' => arrays.new_link(index, second, third, outbox),
+        b'd' => arrays.deleted_link(index, second),
+        b'a' => arrays.new_address(index, address, outbox),
+        b'x' => arrays.deleted_address(index, address),
         _ => return None,
     })
 }
 
+// What the engine answers to a datagram; nothing where a number is too large.
+fn received(arrays: &mut Arrays, numbers: [u64; 4], datagram: &[u8]) -> Option<Answer> {
+    let [time, address, port, receiver] = numbers;
+    let sender = Endpoint {
+        address: u32::try_from(address).ok()?,
+        port: u16::try_from(port).ok()?,
+    };
+    Some(arrays.on_data(time, sender, u32::try_from(receiver).ok()?, datagram))
+}
+
 // What the engine answers to a call; nothing where the call is none.
-fn called(arrays: &mut Arrays, call: &Call, outbox: &mut [u8]) -> Option<Answer> {
+fn called(arrays: &mut Arrays, call: Call, outbox: &mut [u8]) -> Option<Answer> {
+    let [text, service, location] = call.texts;
+    let [number, time, ..] = call.numbers;
     Some(match call.letter {
-        b"n" => arrays.begin(call.number(0)?, call.number(1)?),
-        b"z" => arrays.reset_refresh_timer(call.number(0)?),
-        b"r" => arrays.refresh(outbox),
-        b"s" => arrays.subscribe(call.text(0)?, outbox),
-        b"v" => arrays.advertise(call.text(0)?, call.text(1)?, call.text(2)?, outbox),
-        b"w" => arrays.deadvertise(call.text(0)?, outbox),
-        b"t" => arrays.handle_timeout(call.number(0)?, outbox),
-        b"p" => {
-            let receiver = call.number(3)?;
-            arrays.on_data(call.number(0)?, call.sender()?, receiver, call.text(0)?)
-        }
+        b'n' => arrays.begin(u32::try_from(number).ok()?, time),
+        b'z' => arrays.reset_refresh_timer(number),
+        b'r' => arrays.refresh(outbox),
+        b's' => arrays.subscribe(text, outbox),
+        b'v' => arrays.advertise(text, service, location, outbox),
+        b'w' => arrays.deadvertise(text, outbox),
+        b't' => arrays.handle_timeout(number, outbox),
+        b'p' => return received(arrays, call.numbers, text),
         _ => return news(arrays, call, outbox),
     })
 }
@@ -98,7 +89,7 @@ fn is_sent(outbox: &[u8], records: usize, digest: u64) -> bool {
 }
 
 // Makes a call, and tells whether all is as recorded.
-fn is_answered(arrays: &mut Arrays, call: &Call, outbox: &mut [u8], expected: &[u64]) -> bool {
+fn is_answered(arrays: &mut Arrays, call: Call, outbox: &mut [u8], expected: &[u64]) -> bool {
     let [numbers @ .., digest] = expected else {
         return false;
     };
@@ -109,11 +100,28 @@ fn is_answered(arrays: &mut Arrays, call: &Call, outbox: &mut [u8], expected: &[
     numbers == numbers_of(&answer).as_slice() && is_sent(outbox, answer.records, *digest)
 }
 
-fn numbers_in(alloc: Global, fields: &[&[u8]]) -> Result<Vec<u64>, AllocError> {
-    fields
-        .iter()
-        .map(|field| recorded::number(field))
-        .collect(alloc)
+fn answers_in(columns: &[&[u8]; 13]) -> [u64; 13] {
+    columns.map(|column| recorded::number(column))
+}
+
+type Texts = (Vec<u8>, Vec<u8>, Vec<u8>);
+
+fn texts_in(alloc: Global, columns: &[&[u8]; 3]) -> Result<Texts, AllocError> {
+    let [text, service, location] = columns;
+    let text = recorded::decoded(alloc, text)?;
+    let service = recorded::decoded(alloc, service)?;
+    let location = recorded::decoded(alloc, location)?;
+    Ok((text, service, location))
+}
+
+// The call of a line's columns.
+fn call_of<'a>(letter: u8, numbers: &[&[u8]; 4], texts: &'a Texts) -> Call<'a> {
+    let (text, service, location) = texts;
+    Call {
+        letter,
+        numbers: numbers.map(|column| recorded::number(column)),
+        texts: [text, service, location],
+    }
 }
 
 // Makes the call of a line, lent as much of the outbox as it says. A line that is not whole differs.
@@ -123,26 +131,22 @@ fn agrees(
     outbox: &mut [u8],
     fields: &[&[u8]],
 ) -> Result<bool, AllocError> {
-    let [letter, room, rest @ ..] = fields else {
+    let [[letter], room, rest @ ..] = fields else {
         return Ok(false);
     };
-    let Some((numbers, rest)) = rest.split_at_checked(4) else {
+    let Some((numbers, rest)) = rest.split_first_chunk() else {
         return Ok(false);
     };
-    let Some((texts, answers)) = rest.split_at_checked(3) else {
+    let Some((texts, answers)) = rest.split_first_chunk() else {
         return Ok(false);
     };
-    let call = Call {
-        letter,
-        numbers: numbers_in(alloc, numbers)?,
-        texts: texts
-            .iter()
-            .map(|text| recorded::decoded(alloc, text))
-            .try_collect(alloc)?,
+    let Some(answers) = answers.as_array() else {
+        return Ok(false);
     };
+    let texts = texts_in(alloc, texts)?;
+    let call = call_of(*letter, numbers, &texts);
     let room = outbox.len().min(recorded::number(room) as usize);
-    let expected = numbers_in(alloc, answers)?;
-    Ok(is_answered(arrays, &call, &mut outbox[..room], &expected))
+    Ok(is_answered(arrays, call, &mut outbox[..room], &answers_in(answers)))
 }
 
 // As much as a line of the lists may lend.

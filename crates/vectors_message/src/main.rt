@@ -112,10 +112,8 @@ fn built_by(letter: &[u8], buf: &mut [u8], build: Build) -> Option<(usize, usize
 }
 
 // Whether a build answers as recorded, writes the message and behind it leaves the buffer alone.
-fn is_built(letter: &[u8], numbers: &[usize], bytes: &[u8]) -> bool {
-    let [refusal, len, a, b, c, room, _, _] = *numbers else {
-        return false;
-    };
+fn is_built(letter: &[u8], numbers: Numbers, bytes: &[u8]) -> bool {
+    let [refusal, len, a, b, c, room, _, _] = numbers;
     let Some(build) = build_of(bytes, a, b, c) else {
         return false;
     };
@@ -130,23 +128,29 @@ fn is_built(letter: &[u8], numbers: &[usize], bytes: &[u8]) -> bool {
             .is_some_and(|rest| recorded::is_filled(rest))
 }
 
+// Whether crate `message` answers as recorded.
+fn is_answered(letter: &[u8], numbers: Numbers, bytes: &[u8]) -> bool {
+    match letter {
+        b"p" => numbers == of_parse(bytes),
+        _ => is_built(letter, numbers, bytes),
+    }
+}
+
+fn numbers_in(columns: &[&[u8]; 8]) -> Numbers {
+    columns.map(|column| recorded::number(column) as usize)
+}
+
 // Whether a line's answer agrees; that of a line that is not whole does not.
 fn agrees(alloc: Global, fields: &[&[u8]]) -> Result<bool, AllocError> {
     let [letter, count, columns @ .., digits] = fields else {
         return Ok(false);
     };
-    let bytes = recorded::decoded(alloc, digits)?;
-    if recorded::number(count) != bytes.len() as u64 {
+    let Some(columns) = columns.as_array() else {
         return Ok(false);
-    }
-    let numbers: Vec<usize> = columns
-        .iter()
-        .map(|column| recorded::number(column) as usize)
-        .collect(alloc)?;
-    Ok(match *letter {
-        b"p" => numbers.as_slice() == of_parse(&bytes).as_slice(),
-        _ => is_built(letter, &numbers, &bytes),
-    })
+    };
+    let bytes = recorded::decoded(alloc, digits)?;
+    let is_whole = recorded::number(count) == bytes.len() as u64;
+    Ok(is_whole && is_answered(letter, numbers_in(columns), &bytes))
 }
 
 fn main(rt: HostRuntime) -> io::Result<()> {

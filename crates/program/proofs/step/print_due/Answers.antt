@@ -2,7 +2,7 @@
 use Rattle.std.proofs.Common.{◌∙◌, ap}
 use Rattle.dialogue.specs.Outbox.{record_at}
 use Rattle.dialogue.specs.Printing.{record_line}
-use Rattle.program.proofs.PrintsDue.{written-whole, record-fits, prints-record, prints-last}
+use Rattle.program.proofs.PrintsDue.{prints-record, prints-last}
 use Rattle.program.specs.Program.{stain}
 use Rattle.program.proofs.step.print_due.Goals as goal
 
@@ -16,6 +16,4 @@ pub returns : goal.returns
 returns c =
     λ printing room.
     let p = c.in-Some.due in
-    prints-record c.args.s c.args.outbox.now c.in-Some.is c.if-due.false
-    (written-whole c.append_record.ensures.0 (record-fits p.next c.front-lent.result.now c.record_at.ensures c.append_record.ensures.1 room)
-    ∙ ap record_line (c.record_at.ensures ∙ ap (record_at p.next) c.front-lent.ensures))
+    prints-record c.args.s c.args.outbox.now c.in-Some.is c.if-due.false (c.say_record.ensures ∙ ap (λ o. record_line (record_at p.next o)) c.front-lent.ensures)

@@ -17,7 +17,7 @@ pub fn front(s: &[u8], n: usize) -> &[u8]
     &s[..n.min(s.len())]
 }
 
-// The byte at `i`, 0 past the end. As text's: it stands here too, since an edit of this crate makes it wrong (must-fail).
+// The byte at `i`, 0 past the end. As text's: it stands here too, since an edit of this crate makes it wrong (must-fail-by-name).
 pub fn byte_at(s: &[u8], i: usize) -> u8
     ensures { result ≡ get_or s.now i 0 }
 {

@@ -91,7 +91,7 @@ fn read_all(
     state
 }
 
-// The input has ended: what is left of it is handed on, and its answer told to the end.
+// The input has ended: what is left of it is handed on, and its answer told to the end. The state says so; nobody goes on from it.
 fn on_end(
     to: Stdout,
     s: State,

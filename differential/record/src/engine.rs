@@ -1,6 +1,5 @@
-//! `record-engine FOLDER`: writes FOLDER/stdin, lists of calls with what the judge has to say to each (the unchanged engine.rs:
-//! records, who is told, poll; the text of documents 01 and 02: refusals, the ledger's counts), and FOLDER/stdout, what a program
-//! that replays them without a difference has to print. The lists are those of cases/src/directed.rs, short random ones of
+//! Lists of calls with what the judge has to say to each (the unchanged engine.rs: records, who is told, poll; the text of
+//! documents 01 and 02: refusals, the ledger's counts). The lists are those of cases/src/directed.rs, short random ones of
 //! cases/src/lists.rs, and some that no line of `trace` can say: texts with line ends, an engine whose `new` was refused.
 //!
 //! One line a call, fields parted by a blank, numbers and bytes in hexadecimal: a letter; the length of the outbox; four numbers;
@@ -18,8 +17,6 @@
 //! | r | refresh | | |
 //! | p | a datagram | time, sender, port, receiving address | datagram |
 //! | t z | handle_timeout, reset_refresh_timer | time | |
-mod list;
-
 use cases::directed;
 use cases::lists::List;
 use judge::call::{Answer, Call};
@@ -28,14 +25,18 @@ use judge::{read, Judge, Line, Program, MAX_TIME, OUTBOX, RECORD};
 /// Calls of a list, each with the length of its outbox.
 type Calls = Vec<(Call, usize)>;
 
-fn main() {
-    let folder = std::env::args().nth(1).expect("record-engine FOLDER");
+pub fn lines() -> Vec<String> {
     // The lists by hand are whole; of the random ones every fourth is long enough to be deep.
     let by_hand = directed::all().len() as u64;
     let length = |number| if number < by_hand { usize::MAX } else { [70, 16, 16, 16][number as usize % 4] };
     let mut lists: Vec<Calls> = (0..240).map(|number| from_lines(List::new(Program::Trace, 2024, number), length(number))).collect();
     lists.extend(beyond_lines());
-    list::write(&folder, &lists.iter().flat_map(|calls| recorded(calls)).collect::<Vec<_>>());
+    lists.iter().flat_map(recorded).collect()
+}
+
+/// That a reply waits in a new engine.
+pub fn wrong() -> Vec<String> {
+    vec![line(&Call::New { seed: 0, now: 0 }, OUTBOX, &Answer { waiting: 1, ..Answer::default() })]
 }
 
 /// The first calls of a list of `trace`, from its accepted `new` on.

@@ -1,6 +1,5 @@
-//! `record-message FOLDER`: writes FOLDER/stdin, datagrams and builds with the answers of the unchanged message.rs, and
-//! FOLDER/stdout, what a program that replays them without a difference has to print. The inputs are a sample of
-//! cases/src/datagrams.rs and cases/src/builds.rs; the live comparison (compare-message) runs through all of them.
+//! Datagrams and builds with the answers of the unchanged message.rs. The inputs are a sample of cases/src/datagrams.rs and
+//! cases/src/builds.rs; the live comparison (compare-message) runs through all of them.
 //!
 //! One line a case: a letter, nine columns of four hexadecimal digits, then bytes, two digits each; one blank between.
 //!
@@ -9,19 +8,21 @@
 //!   own; a place is where that text stands.
 //! - `s` `r` `n` `b`, build_search, response, notify, byebye: count of the bytes; refusal; length of the message; lengths
 //!   of the three texts; length of the buffer; 0; 0; then the texts and the message. The message is message.rs's own.
-mod list;
-
 use cases::builds::{builds, Build};
 use cases::datagrams;
 use cases::dice::Dice;
 use judge::messages::{parse, Kind};
 
-fn main() {
-    let folder = std::env::args().nth(1).expect("record-message FOLDER");
+pub fn lines() -> Vec<String> {
     let mut dice = Dice::new(2024, 7);
     let mut lines: Vec<String> = sample(&mut dice).iter().map(|datagram| parse_line(datagram)).collect();
     lines.extend(builds(&mut dice, 300).iter().map(build_line));
-    list::write(&folder, &lines);
+    lines
+}
+
+/// That an empty datagram is a search, and that a byebye is built into no room.
+pub fn wrong() -> Vec<String> {
+    vec![line('p', &[0, 3, 0, 0, 0, 0, 0, 0, 0], b""), line('b', &[2, 0, 0, 1, 1, 0, 0, 0, 0], b"tu")]
 }
 
 /// The well-formed ones cut at every byte of the shortest, and one in so many of each further kind.

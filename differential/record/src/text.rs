@@ -1,6 +1,5 @@
-//! `record-text FOLDER`: writes FOLDER/stdin, cases of the text rules with the answers of Rust's own library, and
-//! FOLDER/stdout, what a program that replays them without a difference has to print. The inputs are those of
-//! cases/src/texts.rs; every answer is computed here by the function of Rust's that the letter stands for.
+//! Cases of the text rules with the answers of Rust's own library. The inputs are those of cases/src/texts.rs; every answer is
+//! computed here by the function of Rust's that the letter stands for.
 //!
 //! One line a case: a letter, then in hexadecimal the input's length (4 digits), an answer A (16), an answer B (4), then
 //! the input, two digits a byte; one blank between.
@@ -16,16 +15,17 @@
 //! | e | the first in `to_ascii_uppercase` is the second | 1 if so | length of the first |
 //! | f r | `position`, `rposition` of the last byte in the others | the place, or how many there are | how many |
 //! | x | `find` of the second text in the first | the place, or the first's length | length of the first |
-mod list;
-
 use cases::dice::Dice;
 use cases::texts;
 use std::cmp::Ordering;
 
-fn main() {
-    let folder = std::env::args().nth(1).expect("record-text FOLDER");
-    let lines: Vec<String> = all().iter().map(line).collect();
-    list::write(&folder, &lines);
+pub fn lines() -> Vec<String> {
+    all().iter().map(line).collect()
+}
+
+/// That `A` is no UTF-8, and that it comes behind `B`.
+pub fn wrong() -> Vec<String> {
+    [('u', 0, 0, "A"), ('o', 2, 1, "AB")].map(|(letter, a, b, input)| line(&Case { letter, a, b, input: input.into() })).into()
 }
 
 struct Case {

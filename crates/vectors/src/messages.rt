@@ -1,11 +1,7 @@
-// Replays recorded answers of the unchanged message.rs against crate `message` (document 01, 'Messages') and prints how
-// many cases there were and how many differ. differential/record/src/message.rs made the list and says what each column
-// is: a letter, nine numbers of four digits, then bytes.
-#![tactic(auto)]
-
+// Recorded answers of the unchanged message.rs against crate `message` (document 01, 'Messages'). differential/record/src/message.rs made the cases and says
+// what each column is: a letter, nine numbers of four digits, then bytes.
 use message::{BuildError, Message};
 use std::alloc::{AllocError, Global};
-use std::io;
 use text::white::Place;
 
 // As much as a build of the list is lent.
@@ -141,7 +137,7 @@ fn numbers_in(columns: &[&[u8]; 8]) -> Numbers {
 }
 
 // Whether a line's answer agrees; that of a line that is not whole does not.
-fn agrees(alloc: Global, fields: &[&[u8]]) -> Result<bool, AllocError> {
+pub(crate) fn agrees(alloc: Global, fields: &[&[u8]]) -> Result<bool, AllocError> {
     let [letter, count, columns @ .., digits] = fields else {
         return Ok(false);
     };
@@ -151,10 +147,4 @@ fn agrees(alloc: Global, fields: &[&[u8]]) -> Result<bool, AllocError> {
     let bytes = recorded::decoded(alloc, digits)?;
     let is_whole = recorded::number(count) == bytes.len() as u64;
     Ok(is_whole && is_answered(letter, numbers_in(columns), &bytes))
-}
-
-fn main(rt: HostRuntime) -> io::Result<()> {
-    let alloc = rt.alloc();
-    let tally = recorded::replay(alloc, rt.reader(), |fields| agrees(alloc, fields))?;
-    println!(rt; "{tally}")
 }

@@ -1,11 +1,7 @@
-// Replays recorded answers of Rust's own text functions against crate `text` (document 01, 'Text rules') and prints how
-// many cases there were and how many differ. differential/record/src/text.rs made the list and says what each column is:
-// a letter, the input's length, two answers, the input.
-#![tactic(auto)]
-
+// Recorded answers of Rust's own text functions against crate `text` (document 01, 'Text rules'). differential/record/src/text.rs made the cases and says
+// what each column is: a letter, the input's length, two answers, the input.
 use std::alloc::{AllocError, Global};
 use std::cmp::Ordering;
-use std::io;
 use text::number::Width;
 
 // The two answers of a line.
@@ -85,7 +81,7 @@ fn is_answered(letter: &[u8], recorded: Answers, input: &[u8]) -> bool {
 }
 
 // Whether a line's answers agree; those of a line that is not whole do not.
-fn agrees(alloc: Global, fields: &[&[u8]]) -> Result<bool, AllocError> {
+pub(crate) fn agrees(alloc: Global, fields: &[&[u8]]) -> Result<bool, AllocError> {
     let [letter, length, first, second, digits] = fields else {
         return Ok(false);
     };
@@ -93,10 +89,4 @@ fn agrees(alloc: Global, fields: &[&[u8]]) -> Result<bool, AllocError> {
     let answers = (recorded::number(first), recorded::number(second));
     let is_whole = recorded::number(length) == input.len() as u64;
     Ok(is_whole && is_answered(letter, answers, &input))
-}
-
-fn main(rt: HostRuntime) -> io::Result<()> {
-    let alloc = rt.alloc();
-    let tally = recorded::replay(alloc, rt.reader(), |fields| agrees(alloc, fields))?;
-    println!(rt; "{tally}")
 }

@@ -1,14 +1,10 @@
-// Replays lists of calls against crate `engine` (document 01, 'Engine and ledger'), with what the unchanged engine.rs sends, tells and
-// polls and what documents 01 and 02 count and refuse, and prints how many calls there were and how many differ.
-// differential/record/src/engine.rs made the lists and says what each field of a line is: one call a line.
-#![tactic(auto)]
-
+// Lists of calls against crate `engine` (document 01, 'Engine and ledger'), with what the unchanged engine.rs sends, tells and polls and what documents 01 and 02
+// count and refuse. differential/record/src/engine.rs made the lists and says what each field of a line is: one call a line.
 use engine::advertisement::Endpoint;
 use engine::answer::Answer;
 use engine::arrays::Arrays;
 use engine::sizes::RECORD_SIZE;
 use std::alloc::{AllocError, Global};
-use std::io;
 
 // The call of a line: its letter, its numbers and its texts.
 #[derive(Clone, Copy)]
@@ -125,7 +121,7 @@ fn call_of<'a>(letter: u8, numbers: &[&[u8]; 4], texts: &'a Texts) -> Call<'a> {
 }
 
 // Makes the call of a line, lent as much of the outbox as it says. A line that is not whole differs.
-fn agrees(
+pub(crate) fn agrees(
     alloc: Global,
     arrays: &mut Arrays,
     outbox: &mut [u8],
@@ -147,17 +143,4 @@ fn agrees(
     let call = call_of(*letter, numbers, &texts);
     let room = outbox.len().min(recorded::number(room) as usize);
     Ok(is_answered(arrays, call, &mut outbox[..room], &answers_in(answers)))
-}
-
-// As much as a line of the lists may lend.
-const OUTBOX_MAX: usize = 300000;
-
-fn main(rt: HostRuntime) -> io::Result<()> {
-    let alloc = rt.alloc();
-    let mut arrays = Arrays::new();
-    let mut outbox = vec![in alloc; 0u8; OUTBOX_MAX]?;
-    let tally = recorded::replay(alloc, rt.reader(), |fields| {
-        agrees(alloc, &mut arrays, &mut outbox, fields)
-    })?;
-    println!(rt; "{tally}")
 }

@@ -9,6 +9,7 @@ from prover import ROOT
 PARTS = ("src", "specs", "proofs")
 # The line on which a function begins: its indent and its name.
 A_FUNCTION = re.compile(r"(\s*)(?:pub(?:\([^)]*\))? )?(?:const )?(?:unsafe )?(?:extern \"C\" )?fn (\w+)")
+# What the name of a function's copy ends in.
 AGAIN = "_again"
 
 

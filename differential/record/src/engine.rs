@@ -34,9 +34,12 @@ pub fn lines() -> Vec<String> {
     lists.iter().flat_map(recorded).collect()
 }
 
-/// That a reply waits in a new engine.
+/// That a reply waits in a new engine, and that `new` sends other bytes than none.
 pub fn wrong() -> Vec<String> {
-    vec![line(&Call::New { seed: 0, now: 0 }, OUTBOX, &Answer { waiting: 1, ..Answer::default() })]
+    let new = Call::New { seed: 0, now: 0 };
+    let waiting = line(&new, OUTBOX, &Answer { waiting: 1, ..Answer::default() });
+    let right = line(&new, OUTBOX, &Answer::default());
+    vec![waiting, right.replace(" 0\n", " 1\n")]
 }
 
 /// The first calls of a list of `trace`, from its accepted `new` on.
@@ -54,7 +57,6 @@ fn from_lines(mut list: List, length: usize) -> Calls {
     }
     let start = calls.iter().position(|(call, _)| matches!(call, Call::New { .. })).unwrap_or(calls.len());
     calls.drain(..start);
-    calls.retain(|(call, _)| !matches!(call, Call::Deadvertise { name: long } | Call::Data { datagram: long, .. } if long.len() > 1900));
     calls.truncate(length);
     calls
 }

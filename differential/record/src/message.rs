@@ -20,9 +20,14 @@ pub fn lines() -> Vec<String> {
     lines
 }
 
-/// That an empty datagram is a search, and that a byebye is built into no room.
+/// That an empty datagram is a search, that a byebye is built into no room, and that one ends in a zero.
 pub fn wrong() -> Vec<String> {
-    vec![line('p', &[0, 3, 0, 0, 0, 0, 0, 0, 0], b""), line('b', &[2, 0, 0, 1, 1, 0, 0, 0, 0], b"tu")]
+    let byebye = Build { kind: Kind::ByeBye, texts: vec![b"t".into(), b"u".into()], room: 4096 };
+    vec![
+        line('p', &[0, 3, 0, 0, 0, 0, 0, 0, 0], b""),
+        line('b', &[2, 0, 0, 1, 1, 0, 0, 0, 0], b"tu"),
+        build_line(&byebye).replace("0a\n", "00\n"),
+    ]
 }
 
 /// The well-formed ones cut at every byte of the shortest, and one in so many of each further kind.

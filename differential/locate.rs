@@ -1,5 +1,7 @@
-//! Build script: tells a crate where the unchanged Rust lies, which is $COTTON_SRC or, without it,
-//! ../shared/docs/src beside the repository. The files are read from there.
+//! Build script: tells a crate where the Rust lies, which is $COTTON_SRC or, without it, ../shared/docs/src beside the repository.
+//! The files are read from there. Of engine.rs a copy is made in the build's own folder, with one edit: the reference (reference.rs).
+mod reference;
+
 use std::{env, fs, path::Path};
 
 fn main() {
@@ -19,6 +21,9 @@ fn main() {
     if shim.exists() {
         put(&shim, &Path::new(&out).join("error.rs"));
     }
+    let published = fs::read_to_string(source.join("cotton-ssdp/src/engine.rs")).unwrap();
+    let made = reference::reference(&published).unwrap_or_else(|error| panic!("{error}"));
+    fs::write(Path::new(&out).join("engine.rs"), made).unwrap();
 }
 
 fn put(from: &Path, to: &Path) {

@@ -84,7 +84,7 @@ struct kohlsilk_answer {
     size_t group;     /* replies sent to the group */
     size_t dropped;   /* replies that went with their name */
     size_t waiting;   /* replies that wait after the call */
-    uint64_t poll;    /* when kohlsilk_handle_timeout is to be called */
+    uint64_t poll;    /* when kohlsilk_handle_timeout is to be called: at once, where that time has come already */
     uint32_t mask;    /* bit k: the datagram concerns subscription k */
     uint32_t told;    /* the number of those bits */
     uint32_t leave;   /* the outcome handed in with the deletion of a link that was held */
@@ -130,7 +130,9 @@ size_t kohlsilk_lent_new_address_need(const uint64_t *head, const uint64_t *link
                                       const uint8_t *address, size_t address_len);
 
 /* Makes an engine in memory that the host lends, whatever is in it. Its first salvo is due at `time`. The seed spreads the
- * delays of replies and refreshes: take a random one for each machine. */
+ * delays of replies and refreshes: take a random one for each machine. A reply is due random_seed % min(1000 * MX, 5000)
+ * milliseconds behind its search, inside the window of MX seconds in which the searcher listens. Windows are whole seconds: with a
+ * seed whose remainder by 1000 is from 10 to 899, every reply waits 10 ms, in which searches of a flood share it, and has 100 ms for its way. */
 static inline struct kohlsilk_answer kohlsilk_new(struct kohlsilk_engine *engine, uint32_t random_seed, uint64_t time)
 {
     return kohlsilk_lent_new(engine->head, engine->numbers, random_seed, time);
@@ -195,7 +197,8 @@ static inline struct kohlsilk_answer kohlsilk_refresh(const struct kohlsilk_engi
     return kohlsilk_lent_refresh(engine->head, engine->links, engine->searches, engine->numbers, engine->texts, outbox, outbox_len);
 }
 
-/* A datagram has come from `sender`, at the host's address `receiver`: for one sent to the group, the address of the link that it came by. */
+/* A datagram has come from `sender`, at the host's address `receiver`: for one sent to the group, the address of the link that it came by.
+ * The reply to a search may be due at `time` itself: `poll` is then no later than `time`. */
 static inline struct kohlsilk_answer kohlsilk_on_data(struct kohlsilk_engine *engine, uint64_t time, uint32_t sender, uint16_t port,
                                                       uint32_t receiver, const uint8_t *datagram, size_t datagram_len)
 {

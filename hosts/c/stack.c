@@ -74,7 +74,7 @@ static void full(void)
 static void ready_nothing(void) {}
 static void ready_down(void) { kohlsilk_new_link(&engine, 1, KOHLSILK_MULTICAST, 0, outbox, sizeof outbox); }
 static void ready_room(void) { kohlsilk_deleted_address(&engine, 1, (const uint8_t[]){10, 0, 1, 1}, sizeof address); }
-static void ready_unasked(void) { kohlsilk_handle_timeout(&engine, NOW + 10, outbox, sizeof outbox); }
+static void ready_unasked(void) { kohlsilk_handle_timeout(&engine, NOW, outbox, sizeof outbox); }
 static void ready_gone(void) { kohlsilk_deadvertise(&engine, named(0), sizeof name, outbox, sizeof outbox); }
 
 static void ready_fewer(void)
@@ -99,7 +99,7 @@ static void call_deadvertise(void) { answer = kohlsilk_deadvertise(&engine, name
 static void call_refresh(void) { answer = kohlsilk_refresh(&engine, outbox, sizeof outbox); }
 static void call_search(void) { make_search(1); }
 static void call_notify(void) { answer = kohlsilk_on_data(&engine, NOW, 1, 5000, HERE, (const uint8_t *)notify, strlen(notify)); }
-static void call_handle_timeout(void) { answer = kohlsilk_handle_timeout(&engine, NOW + 10, outbox, sizeof outbox); }
+static void call_handle_timeout(void) { answer = kohlsilk_handle_timeout(&engine, NOW, outbox, sizeof outbox); }
 static void call_reset_refresh_timer(void) { answer = kohlsilk_reset_refresh_timer(&engine, NOW); }
 
 /* What a call needs, as the records of that call. */
@@ -112,7 +112,7 @@ static void note_need(size_t bytes)
 static void call_announcement_need(void) { note_need(kohlsilk_advertise_need(&engine)); }
 static void call_deadvertise_need(void) { note_need(kohlsilk_deadvertise_need(&engine, named(0), sizeof name)); }
 static void call_refresh_need(void) { note_need(kohlsilk_refresh_need(&engine)); }
-static void call_handle_timeout_need(void) { note_need(kohlsilk_handle_timeout_need(&engine, NOW + 10)); }
+static void call_handle_timeout_need(void) { note_need(kohlsilk_handle_timeout_need(&engine, NOW)); }
 static void call_new_link_need(void) { note_need(kohlsilk_new_link_need(&engine, 1, UP)); }
 static void call_new_address_need(void) { note_need(kohlsilk_new_address_need(&engine, 1, address, sizeof address)); }
 

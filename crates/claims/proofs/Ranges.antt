@@ -182,7 +182,7 @@ result_fits : (seed : ℕ) (x : Act) (as' : List Advertisement) → Brings as' x
 unfolding result
 result_fits seed (Enters name service location) as' b s t h = each-enter advertised (newcomer name service location) (record { needed = tt; answer = omega arith }) h
 result_fits seed (Leaves name) as' b s t h = each-leave advertised name h
-result_fits seed (Asks q) as' b s t h = let due = q.time + delay seed q.mx in each_map (asked due q) (asked-fits due q s b) (each_both t h)
+result_fits seed (Asks q) as' b s t h = let due = q.time + delay seed q.mx in each_map (asked due q) (asked-fits due q s b.0) (each_both t h)
 result_fits seed (Ticks time) as' b s t h = each_map (served time) (served-fits time) h
 
 results_fit : (seed : ℕ) (xs : List Act) (as' : List Advertisement) → Single xs → Each (Brings as') xs → Each ActFits xs → Each TextsFit as' → Each Answerable as' →

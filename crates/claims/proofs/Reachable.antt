@@ -139,7 +139,7 @@ module _ (laws : Laws) where
       record {
         order = ascending_map advertised (asked due q) (λ a. unfold asked in refl) h.order;
         few = omega (arith, length-map as' (asked due q), h.few);
-        fit = each_map (asked due q) (asked-fit laws due q b) h.fit;
+        fit = each_map (asked due q) (asked-fit laws due q b.0) h.fit;
       }
   result-listed seed (Ticks now) as' b h = record {
     order = ascending_map advertised (served now) (λ a. unfold served in refl) h.order;

@@ -3,7 +3,7 @@ use mathlib.Core.Path.{◌≡◌, refl}
 use mathlib.Core.Bool.{Bool, true, false, cond, not, ◌&&◌, ◌||◌, true≢false}
 use mathlib.Core.List.{List, [], ◌∷◌}
 use mathlib.Core.Option.{Option, none, some}
-use Prim.Native.Nat.{ℕ, ◌≤◌}
+use Prim.Native.Nat.{ℕ, ◌≤◌, ◌<◌}
 use native.Mathlib.Omega.{arith}
 use lib.Dec.{leb, eqb}
 use lib.ListN.{length}
@@ -142,7 +142,7 @@ abbrev pub Brings : List Advertisement → Act → Type 0
 Brings as' (Enters name service location) =
     Fits name_max name × Fits type_max service × Fits location_max location × ((not (known advertised name as') && leb advertisements_max (length as')) ≡ false)
 Brings as' (Leaves name) = Unit {0}
-Brings as' (Asks q) = length q.target ≤ type_max
+Brings as' (Asks q) = (length q.target ≤ type_max) × (0 < q.mx)
 Brings as' (Ticks now) = Unit {0}
 
 asks-bring : (as' : List Advertisement) (now : ℕ) (sender : Endpoint) (receiver : ℕ) (s : List ℕ) (m : Option Message) →
@@ -150,7 +150,7 @@ asks-bring : (as' : List Advertisement) (now : ℕ) (sender : Endpoint) (receive
 asks-bring as' now sender receiver s none p = nobody
 asks-bring as' now sender receiver s (some (NotifyAlive nt usn l)) p = nobody
 asks-bring as' now sender receiver s (some (NotifyByeBye nt usn)) p = nobody
-asks-bring as' now sender receiver s (some (Search st mx)) p = both (ltb-false type_max (length (field_at s st)) p.1.0) nobody
+asks-bring as' now sender receiver s (some (Search st mx)) p = both (ltb-false type_max (length (field_at s st)) p.1.0, omega (arith, eqb-false mx 0 p.0)) nobody
 asks-bring as' now sender receiver s (some (Response st usn l)) p = nobody
 
 brings-at : (h : Held) (c : Call) → Passed (checks h.context (names_of h.advertisements) c) → Each (Brings h.advertisements) (acts c)

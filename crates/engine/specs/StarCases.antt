@@ -1,4 +1,4 @@
--- Document 01's worked cases, those marked with a star, as one table. proofs/StarCases.antt shows that the definitions give every line of it.
+-- Document 01's worked cases, those marked with a star, as one table, with the delays of document 02's change 2. proofs/StarCases.antt shows that the definitions give every line of it.
 use Rattle.std.specs.Prelude.{ℕ, zero, suc, ◌-◌, Bool, true, false, ◌&&◌, List, [], ◌∷◌, eqb}
 use Prim.Native.String.{String}
 use Rattle.std.specs.Bool.{beq}
@@ -48,6 +48,6 @@ star_cases =
     ∷ rewriting "http://h:80" source_address "http://10.0.0.1"
     ∷ rewriting "/d" source_address "/d"
     ∷ growing 0x01020304 (6040 ∷ 6030 ∷ 6020 ∷ 800010 ∷ [])
-    ∷ waiting 4999 5 5009
-    ∷ waiting 5000 5 10
+    ∷ waiting 4999 5 4999
+    ∷ waiting 5000 5 0
     ∷ []

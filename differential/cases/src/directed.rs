@@ -20,6 +20,8 @@ pub(crate) fn search(now: u64, from: &str, to: &str, target: &str, mx: &str) -> 
 
 pub fn all() -> Vec<String> {
     let mut lists = vec![String::new(), "\n".into(), "refresh".into(), EXAMPLE.into(), largest(), sizes(), waits(), links(), salvos(), masks()];
+    lists.push(at_once());
+    lists.extend(windows());
     lists.extend(end_of_time());
     lists.extend(outboxes::all());
     lists
@@ -67,9 +69,10 @@ fn sizes() -> String {
     lines + "timeout\t20\n"
 }
 
-/// Same sender, other target and receiving address: one reply; another port: the group; replaced and withdrawn while waiting.
+/// Same sender, other target and receiving address: one reply; another port: the group; replaced and withdrawn while waiting. By the seed a
+/// reply waits 10 ms.
 fn waits() -> String {
-    let mut lines = UP.to_string() + "advertise\tu\tt:3\thttp://h:80/d\nadvertise\tv\tssdp:all\t/d\ntimeout\t0\n";
+    let mut lines = UP.replace("new\t0", "new\t10") + "advertise\tu\tt:3\thttp://h:80/d\nadvertise\tv\tssdp:all\t/d\ntimeout\t0\n";
     lines += &search(0, "10.0.0.9\t1", "10.0.0.1", "t:1", "1");
     lines += &search(1, "10.0.0.9\t1", "10.0.0.2", "ssdp:all", "5");
     lines += "timeout\t9\ntimeout\t10\ntimeout\t11\n";
@@ -83,6 +86,43 @@ fn waits() -> String {
     lines += "advertise\tu\tt:3\thttp://h:80/d\nadvertise\tu\tt:3\thttp://h:80/d\ntimeout\t70\n";
     lines += &search(80, "10.0.0.9\t1", "9.9.9.9", "ssdp:all", "1");
     lines + "deadvertise\tu\ndeadvertise\tu\ndeadvertise\tv\ntimeout\t90\nreset\t5\ntimeout\t4\n"
+}
+
+/// Document 02, change 2: with the seed 0 a reply is due at the very instant of its search, whatever the MX. Poll shows that instant; a timeout
+/// before it leaves the reply, a search by another joins it, and a timeout at it sends it. So it is where clocks go backward, where the
+/// reply is dropped, and at the last instant.
+fn at_once() -> String {
+    let mut lines = UP.to_string() + "advertise\tu\tt:3\thttp://h:80/d\ntimeout\t0\n";
+    for (now, mx) in [(100, "1"), (200, "2"), (300, "5"), (400, "255")] {
+        let [first, second] = ["10.0.0.9\t1", "10.0.0.8\t1"].map(|from| search(now, from, "10.0.0.1", "t:1", mx));
+        lines += &format!("{first}timeout\t{}\ntimeout\t{now}\ntimeout\t{now}\n", now - 1);
+        lines += &format!("{first}{second}timeout\t{}\ntimeout\t{now}\ntimeout\t{now}\n", now - 1);
+    }
+    lines += &search(500, "10.0.0.9\t1", "10.0.0.1", "t:1", "1");
+    lines += &search(450, "10.0.0.8\t1", "10.0.0.1", "t:1", "1");
+    lines += "timeout\t450\ntimeout\t500\ntimeout\t600\n";
+    lines += &search(550, "10.0.0.9\t1", "10.0.0.1", "t:1", "1");
+    lines += "timeout\t549\ntimeout\t550\n";
+    lines += &search(700, "10.0.0.9\t1", "10.0.0.1", "t:1", "1");
+    lines += "advertise\tu\tt:3\thttp://h:80/d\ntimeout\t700\n";
+    lines += &search(MAX_TIME, "10.0.0.9\t1", "10.0.0.1", "t:1", "5");
+    lines + &format!("timeout\t{MAX_TIME}\ntimeout\t{MAX_TIME}\n")
+}
+
+/// Seeds around each window, those of the ★ cases among them: a reply leaves at the seed's remainder, and not a millisecond before. Without an
+/// address nothing else is sent.
+fn windows() -> Vec<String> {
+    let list = |seed: u32| {
+        let mut lines = format!("new\t{seed}\t0\nadvertise\tu\tt\t/d\ntimeout\t0\n");
+        for (k, mx) in [1u32, 2, 3, 4, 5, 6, 255].into_iter().enumerate() {
+            let now = 10_000 * (1 + k as u64);
+            let due = now + u64::from(seed % (1000 * mx).min(5000));
+            lines += &search(now, "10.0.0.9\t1", "10.0.0.1", "t", &mx.to_string());
+            lines += &format!("timeout\t{}\ntimeout\t{due}\n", due - 1);
+        }
+        lines
+    };
+    [999, 1000, 1999, 2000, 4999, 5000, u32::MAX].map(list).into()
 }
 
 /// News of links and addresses: refused, repeated, without MULTICAST, turning up with two addresses, deleted and back.

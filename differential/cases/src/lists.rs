@@ -30,7 +30,7 @@ const SENDERS: [&str; 5] = ["10.0.0.9\t5000", "10.0.0.9\t5001", "10.0.0.8\t5000"
 const LINKS: [u32; 8] = [1, 2, 3, 1, 2, 3, 4, 4_294_967_295];
 const FLAGS: [u32; 12] =
     [4161, 4161, 4161, 4161, 4096, 4097, 4160, 4163, 65, 0, 4_294_967_295, 4_294_963_199];
-const SEEDS: [u32; 8] = [0, 1, 990, 4999, 5000, 0x0102_0304, 0xFF00_FF00, u32::MAX];
+const SEEDS: [u32; 8] = [0, 1, 999, 4999, 5000, 0x0102_0304, 0xFF00_FF00, u32::MAX];
 
 impl List {
     /// List number `number` of this seed; the first ones are written by hand.

@@ -103,7 +103,8 @@ fn salvos() -> String {
     lines + &format!("outbox\t0\ntimeout\t{}\ntimeout\t6000\n", MAX_TIME + 1)
 }
 
-/// Replies that are due: a lone one is one record, one to the group a record for each of three addresses, by themselves and with the salvo.
+/// Replies that are due: a lone one is one record, one to the group a record for each of three addresses, by themselves and with the salvo. The seed is 0:
+/// they are due at the very instant of their searches, and not a millisecond before.
 fn replies() -> String {
     let lone = search(10, "10.0.0.9\t1", "10.0.0.1", "ssdp:all", "1");
     let one_of_each = lone.clone() + &search(10, "10.0.0.8\t1", "10.0.0.1", "t:2", "1");
@@ -111,18 +112,18 @@ fn replies() -> String {
     let mut lines = format!("{HELD}timeout\t0\n");
     for (waits, records) in [(&lone, 2), (&one_of_each, 4), (&group, 6)] {
         lines += waits;
-        lines += &at_each_length(0, "timeout\t19", "");
-        lines += &at_each_length(records, "timeout\t20", waits);
-        lines += "timeout\t20\nreset\t20\n";
+        lines += &at_each_length(0, "timeout\t9", "");
+        lines += &at_each_length(records, "timeout\t10", waits);
+        lines += "timeout\t10\nreset\t10\n";
         lines += waits;
-        lines += &at_each_length(15 + records, "timeout\t20", &format!("reset\t20\n{waits}"));
-        lines += "timeout\t20\n";
+        lines += &at_each_length(15 + records, "timeout\t10", &format!("reset\t10\n{waits}"));
+        lines += "timeout\t10\n";
     }
     lines += "link\t1\t4096\t0\nlink\t2\t4096\t0\n";
     for (waits, records) in [(&lone, 2), (&one_of_each, 1), (&group, 0)] {
-        lines += &format!("{waits}reset\t20\n");
-        lines += &at_each_length(records, "timeout\t20", &format!("{waits}reset\t20\n"));
-        lines += "timeout\t20\n";
+        lines += &format!("{waits}reset\t10\n");
+        lines += &at_each_length(records, "timeout\t10", &format!("{waits}reset\t10\n"));
+        lines += "timeout\t10\n";
     }
     lines
 }

@@ -1,5 +1,6 @@
-//! The unchanged engine.rs, message.rs, refresh_timer.rs, udp.rs and event.rs of cotton-ssdp. This root is a shim:
-//! it opens `message` and the engine's two private functions to the comparisons, and adds nothing else.
+//! message.rs, refresh_timer.rs, udp.rs and event.rs of cotton-ssdp, unchanged, and engine.rs twice: as the reference of document 02's
+//! change 2, and as it was published. This root is a shim: it opens `message` and the engine's two private functions to the
+//! comparisons, and adds nothing else.
 extern crate alloc;
 
 pub mod message {
@@ -18,8 +19,9 @@ mod event {
     include!(concat!(env!("COTTON_SRC"), "/cotton-ssdp/src/event.rs"));
 }
 
+/// The reference: a copy of engine.rs, made by the build script, without the 10 ms that it adds to a reply's delay.
 pub mod engine {
-    include!(concat!(env!("COTTON_SRC"), "/cotton-ssdp/src/engine.rs"));
+    include!(concat!(env!("OUT_DIR"), "/engine.rs"));
 
     /// The private functions of engine.rs, for comparisons of their own.
     pub mod leaves {
@@ -31,6 +33,11 @@ pub mod engine {
             super::rewrite_host(url, ip)
         }
     }
+}
+
+/// engine.rs as it was published.
+pub mod published {
+    include!(concat!(env!("COTTON_SRC"), "/cotton-ssdp/src/engine.rs"));
 }
 
 pub use event::{Advertisement, Notification};

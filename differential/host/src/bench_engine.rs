@@ -1,4 +1,4 @@
-//! `bench-engine`: every public call of the engine beside the unchanged engine.rs in one process, with all names that ours holds, subscriptions or none, and
+//! `bench-engine`: every public call of the engine beside the Rust's (the reference) in one process, with all names that ours holds, subscriptions or none, and
 //! 3 links with 2 addresses each. Before a call is timed both engines have made it and must have sent the same records and wait for the same instant.
 mod clock;
 mod rust;

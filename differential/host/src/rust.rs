@@ -1,4 +1,4 @@
-//! The unchanged Rust engine with an outbox: its socket writes each datagram into a record, as ours does, but pads nothing.
+//! The Rust engine, the reference, with an outbox: its socket writes each datagram into a record, as ours does, but pads nothing.
 use cotton_netif::{Flags, InterfaceIndex, NetworkEvent};
 use cotton_ssdp::engine::{Callback, Engine};
 use cotton_ssdp::refresh_timer::Timebase;

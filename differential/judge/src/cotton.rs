@@ -1,4 +1,4 @@
-//! The unchanged Rust engine under the same calls: what it sends, whom it tells, when it wants to be woken.
+//! The Rust engine, the reference, under the same calls: what it sends, whom it tells, when it wants to be woken.
 use crate::call::{Call, Peer, Record};
 use cotton_netif::{Flags, InterfaceIndex, NetworkEvent};
 use cotton_ssdp::engine::{Callback, Engine};

@@ -1,4 +1,4 @@
-//! The engine and ledger of documents 01 and 02 (change 1), written from their text alone: the refusals in their order, how many
+//! The engine and ledger of documents 01 and 02 (changes 1 and 2), written from their text alone: the refusals in their order, how many
 //! records a call needs room for, the records that it sends, the six counts. Only the texts of messages (`parse`, `build_*`) are the
 //! Rust's own, as document 01 has it. A quotation is of document 01 where no other is named.
 use crate::call::{Answer, Call, Peer, Record};
@@ -261,7 +261,8 @@ impl Document {
     fn data(&mut self, now: u64, from: Peer, to: Ipv4Addr, datagram: &[u8], answer: &mut Answer) {
         let told = match message::parse(datagram).unwrap() {
             Message::Search { search_target, maximum_wait_sec } => {
-                let delay = 10 + u64::from(self.seed % (1000 * u32::from(maximum_wait_sec)).min(5000));
+                // Document 02: 'seed mod min(1000·MX, 5000), with no 10 added'.
+                let delay = u64::from(self.seed % (1000 * u32::from(maximum_wait_sec)).min(5000));
                 self.search(search_target.as_bytes(), now + delay, from, to, answer);
                 return;
             }

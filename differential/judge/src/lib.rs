@@ -1,4 +1,4 @@
-//! The judge of whole lists of calls: the unchanged Rust engine says what is sent, who is told and when to wake;
+//! The judge of whole lists of calls: the Rust engine (the reference) says what is sent, who is told and when to wake;
 //! the text of documents 01 and 02, written apart in `document`, says what is refused and what the ledger counts. Where
 //! both speak they are held against each other at every call, and document 02's count of records against those sent.
 pub mod call;

@@ -1,4 +1,4 @@
-//! The judge against what the papers print: document 01's example and star cases, document 02's change 1, and cases of readings.md.
+//! The judge against what the papers print: document 01's example and star cases, document 02's changes 1 and 2, and cases of readings.md.
 use judge::text::{matches, rewrite};
 use judge::{Front, Program};
 
@@ -57,7 +57,27 @@ fn star_cases() {
         let lines = run(Program::Session, &format!("new\t{seed}\t9999\nadvertise\tu\tt\t/d\n{search}\n"));
         lines[2].rsplit('\t').next().unwrap().to_string()
     };
-    assert_eq!((due(4999), due(5000)), ("5009".into(), "10".into()));
+    assert_eq!((due(4999), due(5000)), ("4999".into(), "0".into()));
+}
+
+/// Document 02, change 2: 'The delay becomes seed mod min(1000·MX, 5000), with no 10 added.' So a reply is due 'inside the searcher's window', and may be
+/// due at the very instant of its search.
+#[test]
+fn replies_inside_the_window() {
+    let search = |mx: u64| format!("data\t100\t10.0.0.9\t1\t10.0.0.1\tM-SEARCH * HTTP/1.1|ST: t|MX: {mx}|");
+    let due = |seed: u32, mx: u64| {
+        let lines = run(Program::Session, &format!("new\t{seed}\t99999\nadvertise\tu\tt\t/d\n{}\n", search(mx)));
+        lines[2].rsplit('\t').next().unwrap().parse::<u64>().unwrap()
+    };
+    for (seed, mx, delay) in [(0, 1, 0), (999, 1, 999), (1000, 1, 0), (1999, 2, 1999), (4999, 4, 999), (4999, 5, 4999), (5000, 255, 0), (4999, 255, 4999)] {
+        assert_eq!(due(seed, mx), 100 + delay, "seed {seed}, MX {mx}");
+    }
+    for (seed, mx) in [0, 1, 999, 1000, 5009, 0x0102_0304, u32::MAX].into_iter().flat_map(|seed| (1..=255).map(move |mx| (seed, mx))) {
+        assert!((100..100 + (1000 * mx).min(5000)).contains(&due(seed, mx)), "seed {seed}, MX {mx}");
+    }
+    let lines = run(Program::Session, &format!("{UP}advertise\tu\tt\t/d\ntimeout\t0\n{}\ntimeout\t99\ntimeout\t100\n", search(1)));
+    let told = ["0\t0\t1\t0\t0\t0\t0\t1\t100", "0\t0\t0\t0\t0\t0\t0\t1\t100", "0\t1\t0\t0\t1\t0\t0\t0\t6000"];
+    assert_eq!(lines[5..], told);
 }
 
 #[test]
@@ -244,7 +264,7 @@ fn outbox_of_none() {
 /// 'For handle_timeout that sum counts where the salvo is due, and the replies due are added, group ones once an address.'
 #[test]
 fn outbox_of_a_timeout() {
-    let search = |host: u32, kind: &str| format!("data\t0\t10.0.1.{host}\t1\t10.0.0.1\tM-SEARCH * HTTP/1.1|ST: {kind}|MX: 1|\n");
+    let search = |host: u32, kind: &str| format!("data\t10\t10.0.1.{host}\t1\t10.0.0.1\tM-SEARCH * HTTP/1.1|ST: {kind}|MX: 1|\n");
     let lone = HELD.to_string() + &search(1, "ssdp:all");
     let mixed = lone.clone() + &search(2, "t:2");
     let group = lone.clone() + &search(2, "ssdp:all");
@@ -265,7 +285,7 @@ fn outbox_of_a_timeout() {
 /// A call that refusal 2 turns away leaves all as it was: with room the same call then does what it would have done.
 #[test]
 fn short_outbox_changes_nothing() {
-    let search = "data\t0\t10.0.1.1\t1\t10.0.0.1\tM-SEARCH * HTTP/1.1|ST: ssdp:all|MX: 1|\n";
+    let search = "data\t10\t10.0.1.1\t1\t10.0.0.1\tM-SEARCH * HTTP/1.1|ST: ssdp:all|MX: 1|\n";
     let calls = ["link\t3\t4161\t0", "addr\t2\t10.0.0.6", "subscribe\tt:4", "advertise\tu\tt:9\t/", "deadvertise\tu", "refresh", "timeout\t6000"];
     for call in calls {
         let rest = format!("outbox\t62880\n{call}\nrefresh\ntimeout\t6000\n");

@@ -1,4 +1,4 @@
-//! Lists of calls with what the judge has to say to each (the unchanged engine.rs: records, who is told, poll; the text of
+//! Lists of calls with what the judge has to say to each (engine.rs, the reference: records, who is told, poll; the text of
 //! documents 01 and 02: refusals, the ledger's counts). The lists are those of cases/src/directed.rs, short random ones of
 //! cases/src/lists.rs, and some that no line of `trace` can say: texts with line ends, an engine whose `new` was refused.
 //!

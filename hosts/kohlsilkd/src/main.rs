@@ -12,6 +12,7 @@ mod network;
 mod output;
 mod print;
 mod refusals;
+mod seed;
 mod send;
 mod settle;
 mod socket;
@@ -28,6 +29,7 @@ use kohlsilk::GROUP;
 use limit::Kind;
 use netlink::Netlink;
 use print::{report, say, set_level};
+use seed::random_seed;
 use socket::Socket;
 use status::Form;
 use status_server::StatusServer;
@@ -208,10 +210,4 @@ fn take_datagrams(host: &mut Host, socket: &Socket, buffer: &mut [u8]) {
             }
         }
     }
-}
-
-fn random_seed() -> io::Result<u32> {
-    let mut bytes = [0; 4];
-    io::Read::read_exact(&mut std::fs::File::open("/dev/urandom")?, &mut bytes)?;
-    Ok(u32::from_ne_bytes(bytes))
 }

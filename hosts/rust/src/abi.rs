@@ -365,7 +365,7 @@ mod tests {
         on_data(&mut e, 100, 0x0a00_0009, 5000, 0x0a00_0001, b"M-SEARCH * HTTP/1.1\nST: t:01\nMX: 1\n");
         assert_eq!(e.head[3..], [1, 1, 2]);
         let (numbers, texts) = name_row(&e, 0);
-        let due = 100 + 10 + 0x0102_0304 % 1000;
+        let due = 100 + 0x0102_0304 % 1000;
         assert_eq!(numbers, [4, 3, 8, 4, 2, due, 0x0a00_0009, 5000, 0x0a00_0001]);
         let (service_type, location) = (&texts[NAME_SIZE..], &texts[NAME_SIZE + TYPE_SIZE..]);
         let answer = &location[LOCATION_SIZE..];

@@ -46,8 +46,9 @@ pub struct Engine {
 }
 
 impl Engine {
-    /// An engine whose first refresh is due at `time`. The seed spreads delays: take a random one. Where the time is refused there is an
-    /// engine all the same, which begins at time 0: the error holds it.
+    /// An engine whose first refresh is due at `time`. The seed spreads delays: take a random one. A reply is due `random_seed` modulo
+    /// min(1000·MX, 5000) milliseconds behind its search, inside the window in which the searcher listens. Where the time is refused there
+    /// is an engine all the same, which begins at time 0: the error holds it.
     // The error is as large as the engine, since nothing is allocated here.
     #[allow(clippy::result_large_err)]
     pub fn new(random_seed: u32, time: u64) -> Result<Engine, RefusedStart> {
@@ -64,7 +65,8 @@ impl Engine {
         self.waiting
     }
 
-    /// The instant at which [`Engine::handle_timeout`] is to be called, as the latest answer has it.
+    /// The instant at which [`Engine::handle_timeout`] is to be called, as the latest answer has it. A reply may be due at the very time of its
+    /// search: an instant that is not later than now is to be served at once.
     pub fn poll(&self) -> u64 {
         self.poll
     }

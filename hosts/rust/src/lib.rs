@@ -24,7 +24,7 @@
 //! let alive = Message::NotifyAlive { notification_type: "t:2", unique_service_name: "u1", location: "http://10.0.0.1/d" };
 //! assert_eq!(kohlsilk::parse(record.message), Ok(alive));
 //!
-//! // Two searchers ask for it within the delay: one reply waits for both.
+//! // Two searchers ask for it before its reply is sent: one reply waits for both.
 //! let search = b"M-SEARCH * HTTP/1.1\r\nST: t:1\r\nMX: 1\r\n";
 //! let here = Ipv4Addr::new(10, 0, 0, 1);
 //! let first = engine.on_data(100, "10.0.0.9:5000".parse().unwrap(), here, search)?;

@@ -35,10 +35,10 @@ fn a_lone_reply_goes_to_its_searcher() {
     engine.handle_timeout(0, &mut outbox).unwrap();
     engine.advertise("u1", "t:2", "http://h:80/d", &mut outbox).unwrap();
     let answer = engine.on_data(100, SEARCHER, HERE, &search("t:1", "1")).unwrap();
-    assert_eq!((answer.matched, answer.joined, answer.waiting, answer.poll), (1, 0, 1, 110));
-    assert_eq!((engine.waiting(), engine.poll()), (1, 110));
-    assert_eq!(engine.handle_timeout(109, &mut outbox).unwrap().records, 0);
-    let answer = engine.handle_timeout(110, &mut outbox).unwrap();
+    assert_eq!((answer.matched, answer.joined, answer.waiting, answer.poll), (1, 0, 1, 100));
+    assert_eq!((engine.waiting(), engine.poll()), (1, 100));
+    assert_eq!(engine.handle_timeout(99, &mut outbox).unwrap().records, 0);
+    let answer = engine.handle_timeout(100, &mut outbox).unwrap();
     assert_eq!((answer.alone, answer.group, answer.waiting), (1, 0, 0));
     let records: Vec<_> = answer.records_in(&outbox).collect();
     assert_eq!((records.len(), records[0].destination, records[0].source), (1, SEARCHER, HERE));
@@ -72,13 +72,13 @@ fn names_and_the_replies_that_wait() {
     let long = |reply| Name { name: &longest[0], service_type: &longest[1], location: &longest[2], reply };
     assert_eq!(engine.names().collect::<Vec<_>>(), [short(None), long(None)]);
     engine.on_data(100, SEARCHER, HERE, &search("t", "1")).unwrap();
-    let alone = Reply::Searcher { due: 110, searcher: SEARCHER };
+    let alone = Reply::Searcher { due: 100, searcher: SEARCHER };
     assert_eq!(engine.names().collect::<Vec<_>>(), [short(Some(alone)), long(None)]);
     let other = SocketAddrV4::new(*SEARCHER.ip(), 5001);
     engine.on_data(105, other, HERE, &search("ssdp:all", "1")).unwrap();
-    let second = Reply::Searcher { due: 115, searcher: other };
-    assert_eq!(engine.names().collect::<Vec<_>>(), [short(Some(Reply::Group { due: 110 })), long(Some(second))]);
-    engine.handle_timeout(115, &mut outbox).unwrap();
+    let second = Reply::Searcher { due: 105, searcher: other };
+    assert_eq!(engine.names().collect::<Vec<_>>(), [short(Some(Reply::Group { due: 100 })), long(Some(second))]);
+    engine.handle_timeout(105, &mut outbox).unwrap();
     engine.deadvertise("a", &mut outbox).unwrap();
     assert_eq!(engine.names().collect::<Vec<_>>(), [long(None)]);
 }
@@ -211,7 +211,7 @@ fn records_of_any_outbox() {
 }
 
 /// Three addresses on two links that are up and one on a link that is down; three names; two subscriptions. The reply of `u1` waits for the group
-/// and that of `u2` for a searcher, both until 110, and the salvo until 6,000.
+/// and that of `u2` for a searcher, both since 100, and the salvo until 6,000.
 fn busy() -> Engine {
     let (mut engine, mut outbox) = serving();
     for (index, address, flags) in [(1, [10, 0, 0, 2], LINK), (2, [10, 0, 2, 1], LINK), (3, [10, 0, 3, 1], flags::MULTICAST)] {
@@ -267,9 +267,9 @@ fn an_outbox_for_the_records_of_this_very_call() {
     needs(e, "deadvertise", addresses, e.deadvertise_need("u1"), |e, outbox| e.deadvertise("u1", outbox));
     needs(e, "an unknown name", 0, e.deadvertise_need("u4"), |e, outbox| e.deadvertise("u4", outbox));
     needs(e, "refresh", all * addresses, e.refresh_need(), |e, outbox| e.refresh(outbox));
-    needs(e, "before anything is due", 0, e.handle_timeout_need(109), |e, outbox| e.handle_timeout(109, outbox));
+    needs(e, "before anything is due", 0, e.handle_timeout_need(99), |e, outbox| e.handle_timeout(99, outbox));
     let replies = addresses + 1;
-    needs(e, "replies", replies, e.handle_timeout_need(110), |e, outbox| e.handle_timeout(110, outbox));
+    needs(e, "replies", replies, e.handle_timeout_need(100), |e, outbox| e.handle_timeout(100, outbox));
     let both = all * addresses + replies;
     needs(e, "salvo and replies", both, e.handle_timeout_need(6000), |e, outbox| e.handle_timeout(6000, outbox));
     needs(e, "a link that turns up", all, e.new_link_need(3, LINK), |e, outbox| e.new_link(3, LINK, 0, outbox));

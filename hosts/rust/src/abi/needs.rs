@@ -45,9 +45,6 @@ struct Wait {
     group: bool,
 }
 
-/// After a search, with the seed 0.
-const DELAY: u64 = 10;
-
 /// What is held by an engine that began at time 0, from what was put in.
 #[derive(Default)]
 struct Held {
@@ -130,11 +127,11 @@ impl Held {
         }
     }
 
-    /// A search for all.
+    /// A search for all. With the seed 0 its replies are due at once.
     fn on_search(&mut self, sender: u32, time: u64) {
         for wait in self.names.values_mut() {
             match wait {
-                None => *wait = Some(Wait { due: time + DELAY, sender, group: false }),
+                None => *wait = Some(Wait { due: time, sender, group: false }),
                 Some(wait) => wait.group |= wait.sender != sender,
             }
         }

@@ -132,7 +132,8 @@ size_t kohlsilk_lent_new_address_need(const uint64_t *head, const uint64_t *link
 /* Makes an engine in memory that the host lends, whatever is in it. Its first salvo is due at `time`. The seed spreads the
  * delays of replies and refreshes: take a random one for each machine. A reply is due random_seed % min(1000 * MX, 5000)
  * milliseconds behind its search, inside the window of MX seconds in which the searcher listens. Windows are whole seconds: with a
- * seed whose remainder by 1000 is from 10 to 899, every reply waits 10 ms, in which searches of a flood share it, and has 100 ms for its way. */
+ * seed whose remainder by 1000 is from 10 to 899, every reply waits at least 10 ms, in which searches of a flood share it, and has more
+ * than 100 ms for its way. */
 static inline struct kohlsilk_answer kohlsilk_new(struct kohlsilk_engine *engine, uint32_t random_seed, uint64_t time)
 {
     return kohlsilk_lent_new(engine->head, engine->numbers, random_seed, time);

@@ -25,7 +25,9 @@ use Rattle.engine.specs.declared.advertisement.ResponseNeeded.{ResponseNeeded}
 use Rattle.engine.specs.declared.advertisement.ResponseNeeded.TheVariants.{None, Multicast, Unicast}
 use Rattle.engine.specs.declared.answer.Answer.{Answer}
 use Rattle.claims.proofs.LeafLaws.{Laws}
+use Rattle.engine.proofs.Answering.{step-accepted}
 use Rattle.engine.proofs.Members.{Each, nobody, both, each_at}
+use Rattle.claims.proofs.Accepting.{step-refusal, was_accepted}
 use Rattle.claims.proofs.Agreement.{Table, Agree, SameCounts, no_counts, plus-same, same-counts, step_same, turned_same, announced-same, served-same}
 use Rattle.claims.proofs.Balance.{ledger-level}
 use Rattle.claims.proofs.Openings.{LoneWait, Answering, traced, sole-opener, opened-matches}
@@ -102,22 +104,6 @@ next seed time cs c e r a d =
     }
 
 -- ---- an accepted call
-unless-refusal : (k : ℕ) (h : Held) (s : Step) → s.answer.refusal ≡ 0 → (unless k h s).answer.refusal ≡ k
-unless-refusal zero h s e = e
-unless-refusal (suc k) h s e = refl
-
-step-refusal : (h : Held) (c : Call) → (step h c).answer.refusal ≡ refusal_of h c
-unfolding step accepted
-step-refusal h c = unless-refusal (refusal_of h c) h (accepted h c) refl
-
-unless-accepted : (k : ℕ) (h : Held) (s : Step) → k ≡ 0 → unless k h s ≡ s
-unless-accepted zero h s e = refl
-unless-accepted (suc k) h s e = absurd (omega arith)
-
-step-accepted : (h : Held) (c : Call) → refusal_of h c ≡ 0 → step h c ≡ accepted h c
-unfolding step
-step-accepted h c e = unless-accepted (refusal_of h c) h (accepted h c) e
-
 unless-bound : (k : ℕ) (h : Held) (s : Step) → length s.sent ≤ records_max → length (unless k h s).sent ≤ records_max
 unless-bound zero h s e = e
 unless-bound (suc k) h s e = omega arith
@@ -178,9 +164,7 @@ serves : Laws → (seed time : ℕ) (cs : List Call) (now room : ℕ) (e : Engin
     Serves seed time cs now r (step (held e) (Timeout now room)).sent
 unfolding accepted
 serves laws seed time cs now room e r d a z =
-    let k : refusal_of (held e) (Timeout now room) ≡ 0 =
-    sym (step-refusal (held e) (Timeout now room)) ∙ sym (ap (λ (x : Answer). x.refusal) d.answer) ∙ z in
-    let s = step-accepted (held e) (Timeout now room) k in
+    let s = step-accepted (held e) (Timeout now room) (was_accepted d z) in
     let f : (held r.engine).advertisements ≡ map (served now) (held e).advertisements =
     ap (λ (h : Held). h.advertisements) d.engine ∙ ap (λ (x : Step). x.after.advertisements) s ∙ accepted-timeout now room (held e) in
     record {

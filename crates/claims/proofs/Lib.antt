@@ -8,6 +8,8 @@ mod Agreement
 mod Balance
 mod Openings
 mod Messages
+mod Accepting
+mod Windows
 mod Storing
 mod Ranges
 mod Demand3

@@ -11,8 +11,10 @@ use Rattle.engine.proofs.Functions.{functions}
 use Rattle.host.proofs.Exports.{exports}
 use Rattle.claims.specs.Claim.{Log, Claim}
 use Rattle.claims.specs.EveryList.{Word, Lent, Logged}
+use Rattle.claims.specs.Window.{EachInTime}
 use Rattle.claims.proofs.LeafLaws.{laws}
 use Rattle.claims.proofs.Demand3.{demand3}
+use Rattle.claims.proofs.Windows.{in_time}
 use Rattle.claims.proofs.EveryList.{Given, log-of}
 
 begins : (seed time : ℕ) (r : Answered) → News functions seed time r → Begins seed time r
@@ -34,6 +36,10 @@ answers _ _ _ _ _ (by-reset κs h h' ns links searches texts time r p) = p links
 -- DEMAND 3, of every log of the functions' answers
 pub functions-claim : {seed time : ℕ} {cs : List Call} {as' : List Answer} {e : Engine} → (l : Log (News functions) (Gives functions) seed time cs as' e) → Claim l
 functions-claim l = demand3 laws begins answers l
+
+-- what an accepted search opens is due inside its window
+pub functions-in-time : EachInTime (Gives functions)
+functions-in-time e c outbox outbox' r q g = in_time q (answers e c outbox outbox' r g)
 
 -- ---- each list has such a log: the contracts give each call on all contents
 -- an array lent at some place for some time
@@ -77,6 +83,9 @@ functions-logged = log-of functions-give
 -- ---- the same of the exported functions
 pub exports-claim : {seed time : ℕ} {cs : List Call} {as' : List Answer} {e : Engine} → (l : Log (News exports) (Gives exports) seed time cs as' e) → Claim l
 exports-claim l = functions-claim l
+
+pub exports-in-time : EachInTime (Gives exports)
+exports-in-time = functions-in-time
 
 pub exports-logged : (seed time : ℕ) → Word seed → (lent : List (Call × List ℕ)) → Lent lent → Logged (News exports) (Gives exports) seed time lent
 exports-logged = functions-logged

@@ -1,4 +1,5 @@
--- The reply ledger, the claim about every list of calls, and that it is about every list.
+-- The reply ledger, the claim about every list of calls, that it is about every list, and the window in which replies are due.
 pub mod Ledger
 pub mod Claim
 pub mod EveryList
+pub mod Window

@@ -1,19 +1,19 @@
 // The claims about the engine as a whole, each the contract of a function that does nothing: the check names them as proved.
 #![tactic(auto)]
 
-ghost use Rattle.std.specs.Prelude.{ℕ, ◌+◌, ◌*◌, ◌≤◌, ◌<◌, ◌≡◌, true, List, [], ◌∷◌, length, min};
+ghost use Rattle.std.specs.Prelude.{ℕ, ◌≤◌, ◌≡◌, true, List, length};
 ghost use Rattle.message.specs.RoundTrip.{RoundTrip};
 ghost use Rattle.engine.specs.Sizes.{outbox_size};
-ghost use Rattle.engine.specs.Held.{Text, Held};
-ghost use Rattle.engine.specs.Calls.{Call, Query, Asks, acts};
+ghost use Rattle.engine.specs.Held.{Held};
+ghost use Rattle.engine.specs.Calls.{Call};
 ghost use Rattle.engine.specs.Records.{records};
 ghost use Rattle.engine.specs.Layout.{layout};
 ghost use Rattle.engine.specs.Need.{record_count};
-ghost use Rattle.engine.specs.Engine.{names_of, refusal_of, need_of};
+ghost use Rattle.engine.specs.Engine.{names_of, need_of};
 ghost use Rattle.engine.specs.Arrays.{Engine, held};
-ghost use Rattle.claims.specs.Ledger.{opened};
 ghost use Rattle.claims.specs.Claim.{Log, Claim};
 ghost use Rattle.claims.specs.EveryList.{Word, Lent, Logged};
+ghost use Rattle.claims.specs.Window.{EachInTime};
 ghost use Rattle.engine.specs.StarCases.{all_hold, star_cases};
 ghost use Rattle.engine.specs.declared.answer.Answer.{Answer};
 ghost use Rattle.engine.proofs.Contracts.{News, Gives};
@@ -57,7 +57,7 @@ pub fn records_counted()
     ensures { ((h : Held) (c : Call) → (record_count h.context (names_of h.advertisements) c ≡ length (records h.context h.advertisements c)) × (need_of h c ≡ length (layout (records h.context h.advertisements c)))) × ((e : Engine) (c : Call) → need_of (held e) c ≤ outbox_size) }
 {}
 
-// Document 02, change 2: whatever is held, the reply that an accepted search opens is due inside the searcher's window, at the earliest at the very instant of the search.
+// Document 02, change 2: after an accepted search, whatever the arrays held, each reply that it opened is due inside the searcher's window (specs/Window.antt), of the functions and of the exports.
 pub fn due_inside_the_window()
-    ensures { (h : Held) (c : Call) (q : Query) (service : Text) → refusal_of h c ≡ 0 → acts c ≡ Asks q ∷ [] → (q.time ≤ (opened h.context.seed q service).due) × ((opened h.context.seed q service).due < q.time + min (1000 * q.mx) 5000) }
+    ensures { EachInTime (Gives functions) × EachInTime (Gives exports) }
 {}

@@ -1,4 +1,4 @@
-// Lists of calls against crate `engine` (document 01, 'Engine and ledger'), with what the unchanged engine.rs sends, tells and polls and what documents 01 and 02
+// Lists of calls against crate `engine` (document 01, 'Engine and ledger'), with what engine.rs (but for its `+ 10`) sends, tells and polls and what documents 01 and 02
 // count and refuse. differential/record/src/engine.rs made the lists and says what each field of a line is: one call a line.
 use engine::advertisement::Endpoint;
 use engine::answer::Answer;

@@ -27,6 +27,10 @@ pub if_some : {A : Type 0} (r : Option A) {P : Type 0} → P → IfSome r (λ _.
 if_some None p = tt
 if_some (Some x) p = p
 
+pub if_none : {A : Type 0} (r : Option A) {P : Type 0} → P → IfNone r P
+if_none None p = p
+if_none (Some x) p = tt
+
 -- where the next tab stands, or else the line ends
 pub tab : (s : List ℕ) (r : Option ℕ) {n : ℕ} → IfSome r (λ i. (i ≡ index_of 9 s) × (i < length s)) → IfNone r (index_of 9 s ≡ length s) → n ≡ unwrap_or r (length s)
     → n ≡ index_of 9 s
@@ -35,9 +39,10 @@ tab s None h g e = e ∙ sym g
 
 module _ (s s' : Fields) where
   -- there is no field
-  pub reads_none : (form : Form) → length s.line.now < s.at → s'.line.now ≡ s.line.now → Reads form s s' None
+  pub reads_none : (form : Form) → length s.line.now < s.at → s'.line.now ≡ s.line.now → s'.at ≡ s.at → Reads form s s' None
   unfolding field_at
-  reads_none form h l = record { line = l; field = rw (lt-leb s.at (length s.line.now) h) refl; next = tt }
+  reads_none form h l a =
+      record { line = l; field = rw (lt-leb s.at (length s.line.now) h) refl; next = tt; unread = rw (lt-leb s.at (length s.line.now) h) a }
 
   -- a field that reaches to the next tab, and the rest of the line
   pub reads-text : {rest : List ℕ} {n : ℕ} → s.at ≤ length s.line.now → rest ≡ drop s.at s.line.now → n ≡ index_of 9 rest → n ≤ length rest → s'.line.now ≡ s.line.now
@@ -47,6 +52,7 @@ module _ (s s' : Fields) where
     line = l;
     field = rw (le-leb s.at (length s.line.now) h, ← p, ← q, length-take-le n rest m) refl;
     next = rw (← p, ← q) (omega (arith, e));
+    unread = tt;
   }
 
   pub reads-rest : {rest : List ℕ} → s.at ≤ length s.line.now → rest ≡ drop s.at s.line.now → s'.line.now ≡ s.line.now
@@ -56,12 +62,13 @@ module _ (s s' : Fields) where
     line = l;
     field = rw (le-leb s.at (length s.line.now) h, ← p, take_all (length rest) rest (omega arith)) refl;
     next = rw (← p) (omega (arith, e));
+    unread = tt;
   }
 
   -- a text is read as another form that ends at the next tab
   pub reads_not : (form : Form) → is_rest form ≡ false → Reads Text s s' None → Reads form s s' None
-  unfolding field_at
-  reads_not form e r = record { line = r.line; field = go (leb s.at (length s.line.now)) refl r.field; next = tt }
+  unfolding field_at next_at extent
+  reads_not form e r = record { line = r.line; field = go (leb s.at (length s.line.now)) refl r.field; next = tt; unread = rw e r.unread }
     where
       go : (b : Bool) → leb s.at (length s.line.now) ≡ b
           → None ≡ cond b (Some (part s.at (take (extent Text (drop s.at s.line.now)) (drop s.at s.line.now)))) None
@@ -76,10 +83,20 @@ module _ (s s' : Fields) where
   pub reads-as : (form : Form) → is_rest form ≡ false → {p : Place} {text : List ℕ} → Reads Text s s' (Some p) → text ≡ take p.len (drop p.start s'.line.now)
       → (r : Option (Of form)) → r ≡ read_as form p.start text → Reads form s s' r
   unfolding field_at next_at extent
-  reads-as form e {p} {text} t i r q = record { line = t.line; field = go (leb s.at (length s.line.now)) t.field; next = if_some r (rw e t.next) }
+  reads-as form e {p} {text} t i r q = record {
+    line = t.line;
+    field = go (leb s.at (length s.line.now)) t.field;
+    next = if_some r (rw e t.next);
+    unread = if_none r (past (leb s.at (length s.line.now)) t.field);
+  }
     where
       d : List ℕ
       d = drop s.at s.line.now
+
+      past : (b : Bool) → Some p ≡ cond b (Some (part s.at (take (index_of 9 d) d))) None
+          → s'.at ≡ cond b (s.at + cond (is_rest form) (length d) (index_of 9 d) + 1) s.at
+      past true u = rw e t.next
+      past false u = absurd (none-some _ (sym u))
 
       go : (b : Bool) → Some p ≡ cond b (Some (part s.at (take (index_of 9 d) d))) None
           → r ≡ cond b (read_as form s.at (take (cond (is_rest form) (length d) (index_of 9 d)) d)) None

@@ -1,5 +1,5 @@
 -- The fields of a line (document 01, 'The session program'): parted by tabs, each read as its form.
-use Rattle.std.specs.Prelude.{ℕ, ◌+◌, ◌/◌, ◌≡◌, Bool, true, false, cond, ◌&&◌, Option, Some, None, IfSome, MatchOption, List, leb, length, take, drop}
+use Rattle.std.specs.Prelude.{ℕ, ◌+◌, ◌/◌, ◌≡◌, Bool, true, false, cond, ◌&&◌, Option, Some, None, IfSome, IfNone, MatchOption, List, leb, length, take, drop}
 use Rattle.std.specs.Borrow.{Bor}
 use Rattle.text.specs.Number.{number, max16, max32}
 use Rattle.text.specs.Bytes.{index_of}
@@ -69,11 +69,12 @@ field_at line at form = cond (leb at (length line)) (read_as form at (take (exte
 unfoldable pub next_at : List ℕ → ℕ → Form → ℕ
 next_at line at form = at + extent form (drop at line) + 1
 
--- the next field of a line is read as its form
+-- the next field of a line is read as its form; behind one that cannot be read the line goes on as behind any other, and where there is none it goes on at that place
 pub record Reads (form : Form) (s s' : Fields) (r : Option (Of form)) : Type 0 where
   pub line : s'.line.now ≡ s.line.now
   pub field : r ≡ field_at s.line.now s.at form
   pub next : IfSome r (λ _. s'.at ≡ next_at s.line.now s.at form)
+  pub unread : IfNone r (s'.at ≡ cond (leb s.at (length s.line.now)) (next_at s.line.now s.at form) s.at)
 
 -- the text of the next field, lent out of the line
 abbrev pub ReadsPart : Fields → Fields → Option (Bor (List ℕ)) → Type 0

@@ -50,7 +50,7 @@ fn has_only_digits(text: &[u8]) -> bool
 pub fn is_hexadecimal(text: &[u8]) -> bool
     ensures { result ≡ hexadecimal text.now }
 {
-    (text.len() % 2 == 0) & has_only_digits(text)
+    (text.len() % 2 == 0) && has_only_digits(text)
 }
 
 // The number that a digit stands for; 0 for any other byte, as the definition has it.

@@ -9,6 +9,7 @@ pub mod Matching
 pub mod StarCases
 pub mod Tables
 pub mod Slots
+pub mod Moves
 pub mod Passes
 pub mod Waits
 pub mod Masks

@@ -9,12 +9,13 @@ use native.Mathlib.Omega.{arith}
 use borrow.Author.Tests.{eqb-true, le-leb}
 use lib.Dec.{eqb, leb}
 use Rattle.std.proofs.lemmas.List.{take-set-le, take_more_set, drop-set-add}
-use lib.ListN.{length, length-take, take, drop, set, get_or, length-set, length-drop, length-map, drop_of_length-le}
-use lib.Seq.{take_all, take-take, take-suc, get_or-take, get_or-drop, drop-cons}
+use lib.ListN.{length, length-take, take, drop, set, get_or, replicate, length-replicate, length-set, length-drop, length-map, drop_of_length-le}
+use lib.Seq.{take_all, take_at, drop_at, length-take-le, take-take, take-suc, get_or-take, get_or-drop, drop-cons}
 use Rattle.std.proofs.Math.Facts.{Fits-lt-pow}
 use mir.Syntax.{w32}
 use mir.Val.{Fits, bool_byte}
 use Rattle.std.proofs.Common.{None, Some, Ok, Err}
+use borrow.Rule.Slice.PartMut.{put_mid}
 use Rattle.engine.specs.Sizes.{links_max, addresses_max}
 use Rattle.engine.specs.Table.{rank, known, entry_of, enter, leave}
 use Rattle.engine.specs.Slots.{insert_at, remove_at}
@@ -104,6 +105,20 @@ first-three (_ ∷ _ ∷ _ ∷ l) x y z h = refl
 -- ---- row i, as a part of the array
 pub part-is : (a w : ℕ) (l : List ℕ) → take ((a + w) - a) (drop a l) ≡ take w (drop a l)
 part-is a w l = let e : (a + w) - a ≡ w = omega arith in ap (λ (k : ℕ). take k (drop a l)) e
+
+-- row i is filled, where zeros were written over it before
+pub over-zeros : (i : ℕ) {a : Link} {u zeros l' : List ℕ} {k m : ℕ} → link_width * i ≤ length u → k ≡ link_width → m ≡ link_width → zeros ≡ replicate m 0
+    → LinkFilled i a (put_mid (link_width * i) k u zeros) l' → LinkFilled i a u l'
+over-zeros i {a} {u} {zeros} {l'} {k} {m} h e f g t =
+    let at = link_width * i in
+    let rest = drop k (drop at u) in
+    let front : length (take at u) ≡ at = length-take-le at u h in
+    let wide : length zeros ≡ link_width = ap length g ∙ length-replicate m 0 ∙ f in
+    let before : take at (put_mid at k u zeros) ≡ take at u = take_at (take at u) (zeros ++ rest) at front in
+    let behind : drop link_width (drop at (put_mid at k u zeros)) ≡ drop link_width (drop at u) =
+    ap (drop link_width) (drop_at (take at u) (zeros ++ rest) at front) ∙ drop_at zeros rest link_width wide ∙ ap (λ (j : ℕ). drop j (drop at u)) e
+    in
+    record { row = t.row; size = t.size; entry = t.entry; all = t.all ∙ λ j. before j ++ (t.row ++ behind j) }
 
 module _ (n i : ℕ) (l : List ℕ) (size : length l ≡ link_numbers) where
   pub put-over : {a : Link} {l' : List ℕ} → i < n → n ≤ links_max → LinkFilled i a l l' → link_rows n l' ≡ set (link_rows n l) i a

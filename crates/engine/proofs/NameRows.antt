@@ -8,6 +8,7 @@ use native.Mathlib.Omega.{arith}
 use lib.ListN.{length, take, drop, set, get_or, length-take, length-drop, drop_of_length-le}
 use lib.Seq.{drop-cons, take-add, take-take, take_at, drop_at, drop-drop, length-take-le, get_or-take, get_or-drop, get_or-set_same, get_or-set_other}
 use Rattle.text.specs.Put.{overwritten, Put}
+use borrow.Rule.Slice.PartMut.{put_mid}
 use Rattle.message.specs.Build.{type_max, name_max}
 use Rattle.engine.specs.Sizes.{advertisements_max, location_max}
 use Rattle.engine.specs.Held.{Advertisement}
@@ -197,6 +198,17 @@ module _ (q : List ℕ) (wide : length q ≡ texts_width) where
         front = ap (take answer_place) all ∙ take_at (take answer_place q) (own ++ rest) answer_place front;
         answer = ap (take len) (ap (take type_max) (ap (drop answer_place) all ∙ drop_at (take answer_place q) (own ++ rest) answer_place front) ∙ take_at own rest type_max size);
       }
+
+-- another answer type, with what stands behind it, written over the whole place
+pub answer-fixed : (q : List ℕ) → length q ≡ texts_width → (len : ℕ) {t d : List ℕ} {k : ℕ} → k ≡ type_max → length t ≡ type_max → d ≡ t → Answered len (take len t) q (put_mid answer_place k q d)
+answer-fixed q wide len {t} {d} {k} e n o =
+    let rest = drop k (drop answer_place q) in
+    let front : length (take answer_place q) ≡ answer_place = length-take-le answer_place q (omega (arith, wide)) in
+    let there : drop answer_place (put_mid answer_place k q d) ≡ d ++ rest = drop_at (take answer_place q) (d ++ rest) answer_place front in
+    record {
+      front = take_at (take answer_place q) (d ++ rest) answer_place front;
+      answer = ap (take len) (ap (take type_max) there ∙ take_at d rest type_max (ap length o ∙ n) ∙ o);
+    }
 
 -- ---- a row replaced, as a part `[w * i..w * i + w]` of its array that was lent comes back
 part-is : (a w : ℕ) (l : List ℕ) → take ((a + w) - a) (drop a l) ≡ take w (drop a l)

@@ -214,7 +214,9 @@ pub fn new_link(
     let held = links::lookup(head, links, index);
     let multicast = Flags(flags).is_multicast();
     let count = links::count_of(head);
-    let short = outbox.len() < need::of_new_link(head, links, searches, index, flags);
+    let turns = news::turns_up(&held, flags);
+    let room = outbox.len();
+    let short = need::is_short_of_link(head, links, searches, index, flags, turns, room);
     if let Err(refusal) = refusals::of_new_link(
         multicast,
         held.is_some(),
@@ -225,7 +227,6 @@ pub fn new_link(
     ) {
         return refused(head, numbers, refusal.number());
     }
-    let turns = news::turns_up(&held, flags);
     let tables = Tables {
         head,
         searches,
@@ -254,7 +255,8 @@ pub fn new_address(
     let held = links::lookup(head, links, index);
     let storing = news::is_stored(&held, address);
     let count = news::addresses_of(&held).len();
-    let short = outbox.len() < need::of_new_address(head, links, searches, index, address);
+    let room = outbox.len();
+    let short = need::is_short_of_address(head, links, searches, index, address, storing, room);
     if let Err(refusal) = refusals::of_new_address(storing, count, index, address, short) {
         return refused(head, numbers, refusal.number());
     }

@@ -29,6 +29,7 @@ mod replies;
 mod salvo;
 mod search;
 mod send;
+mod shift;
 pub mod sizes;
 mod source;
 mod subscription;

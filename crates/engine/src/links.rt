@@ -12,6 +12,7 @@ ghost use Rattle.engine.specs.Changes.{LinkFilled, LinksAfter};
 
 use crate::clamp::{count_in, low_32};
 use crate::interface::Interface;
+use crate::shift::{down, up};
 use crate::sizes::{
     ADDRESSES, FIRST_ADDRESS, Head, LINK_ADDRESSES, LINK_COUNT, LINK_INDEX, LINK_UP, LINK_WIDTH,
     LINKS, Links,
@@ -120,13 +121,15 @@ pub(crate) fn lookup(head: &Head, links: &Links, index: u32) -> Option<Interface
     }
 }
 
-// A link before row i of the first n. Names have the like in names.rt, where a row lies in two arrays.
+// A link before row i of the first n, with zeros where it has no address. Names have the like in names.rt, where a row lies in two arrays.
 fn put_in(links: &mut Links, n: usize, i: usize, link: &Interface)
     requires { (i ≤ n) × (n < links_max) }
     ensures { link_rows (suc n) links.new ≡ insert_at i (link_of link.now) (link_rows n links.old) }
 {
     let at = LINK_WIDTH * i;
-    links.copy_within(at..LINK_WIDTH * n, at + LINK_WIDTH);
+    up(links, at, LINK_WIDTH * n, LINK_WIDTH);
+    let end = at + LINK_WIDTH;
+    links[at..end].fill(0);
     filled(links, i, link);
 }
 
@@ -143,8 +146,7 @@ fn taken_out(links: &mut Links, n: usize, i: usize)
     requires { (i < n) × (n ≤ links_max) }
     ensures { link_rows (n - 1) links.new ≡ remove_at i (link_rows n links.old) }
 {
-    let at = LINK_WIDTH * i;
-    links.copy_within(at + LINK_WIDTH..LINK_WIDTH * n, at);
+    down(links, LINK_WIDTH * i, LINK_WIDTH * (n - 1), LINK_WIDTH);
 }
 
 // The links with `link` in the place of the one of its index, or as a new one if there is room. Answers how many are held then.

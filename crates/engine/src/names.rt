@@ -2,7 +2,7 @@
 // What is read of row i is told by `entry_at` of specs/Arrays.antt; what is changed, as a change of the list of entries. The two arrays that are changed come as two
 // parameters: a struct of both references would be taken apart again in each function, since no part of an array behind a reference in a struct is lent. So what reads a
 // row takes the two as well, or the one that it reads.
-ghost use Rattle.std.specs.Prelude.{◌≡◌, List, ℕ, suc, ◌+◌, ◌-◌, ◌*◌, ◌<◌, ◌≤◌, length, set, get_or};
+ghost use Rattle.std.specs.Prelude.{◌≡◌, List, ℕ, suc, ◌+◌, ◌-◌, ◌*◌, ◌<◌, ◌≤◌, length, take, set, get_or};
 ghost use Rattle.text.specs.Bytes.{order};
 ghost use Rattle.message.specs.Build.{type_max};
 ghost use Rattle.engine.specs.Sizes.{advertisements_max};
@@ -18,6 +18,7 @@ ghost use Rattle.engine.specs.Changes.{change_at, blank, with_active, Replied, A
 use crate::advertisement::{ActiveAdvertisement, Endpoint, Location, ResponseNeeded, Service};
 use crate::buffer::put;
 use crate::clamp::{count_in, low_32};
+use crate::shift::{down, up};
 use crate::sizes::{
     ANSWER_LENGTH, ANSWER_PLACE, Head, LOCATION_LENGTH, LOCATION_PLACE, LOCATION_SIZE, NAME_COUNT,
     NAME_LENGTH, NAME_SIZE, NAMES, NUMBERS_WIDTH, Numbers, REPLY, REPLY_DUE, REPLY_PORT,
@@ -192,12 +193,13 @@ fn set_active(row: &mut [u64], reply: ResponseNeeded, len: u64)
     row[ANSWER_LENGTH] = len;
 }
 
-// Another answer type, which fits: each caller has just tested it, or has it of `Search`.
-fn set_answer(row: &mut [u8], answer: &[u8])
-    requires { (length row.old ≡ texts_width) × (length answer.now ≤ type_max) }
-    ensures { Answered (length answer.now) answer.now row.old row.new }
+// Another answer type, with what stands behind it.
+fn set_answer(row: &mut [u8], answer: &[u8; TYPE_SIZE])
+    requires { length row.old ≡ texts_width }
+    ensures { (len : ℕ) → Answered len (take len answer.now) row.old row.new }
 {
-    put(row, ANSWER_PLACE, answer);
+    let end = ANSWER_PLACE + TYPE_SIZE;
+    row[ANSWER_PLACE..end].copy_from_slice(answer);
 }
 
 // The type of the row as its answer type, `len` being its length.
@@ -242,24 +244,21 @@ pub(crate) fn store_reply(numbers: &mut Numbers, i: usize, reply: ResponseNeeded
     set_reply(&mut numbers[a..e], reply);
 }
 
-// Opens a waiting reply of entry i that answers in a type, which fits.
+// Opens a waiting reply of entry i that answers in a type, the first `len` bytes of what is written of it.
 pub(crate) fn open_at(
     numbers: &mut Numbers,
     texts: &mut Texts,
     i: usize,
     reply: ResponseNeeded,
-    answer: &[u8],
+    answer: &[u8; TYPE_SIZE],
+    len: usize,
 )
-    requires { (i < advertisements_max) × (length answer.now ≤ type_max) }
-    ensures { (n : ℕ) → i < n → n ≤ advertisements_max → entries n numbers.new texts.new ≡ change_at blank i (with_active reply answer.now) (entries n numbers.old texts.old) }
+    requires { i < advertisements_max }
+    ensures { (n : ℕ) → i < n → n ≤ advertisements_max → entries n numbers.new texts.new ≡ change_at blank i (with_active reply (take len answer.now)) (entries n numbers.old texts.old) }
 {
     let at = NUMBERS_WIDTH * i;
     let place = TEXTS_WIDTH * i;
-    set_active(
-        &mut numbers[at..at + NUMBERS_WIDTH],
-        reply,
-        answer.len() as u64,
-    );
+    set_active(&mut numbers[at..at + NUMBERS_WIDTH], reply, len as u64);
     set_answer(&mut texts[place..place + TEXTS_WIDTH], answer);
 }
 
@@ -327,10 +326,8 @@ pub(crate) fn put_in(
     requires { (i ≤ n) × (n < advertisements_max) }
     ensures { entries (suc n) numbers.new texts.new ≡ insert_at i (newcomer new.now.name.now new.now.service.now new.now.location.text.now) (entries n numbers.old texts.old) }
 {
-    let at = NUMBERS_WIDTH * i;
-    numbers.copy_within(at..NUMBERS_WIDTH * n, at + NUMBERS_WIDTH);
-    let place = TEXTS_WIDTH * i;
-    texts.copy_within(place..TEXTS_WIDTH * n, place + TEXTS_WIDTH);
+    up(numbers, NUMBERS_WIDTH * i, NUMBERS_WIDTH * n, NUMBERS_WIDTH);
+    up(texts, TEXTS_WIDTH * i, TEXTS_WIDTH * n, TEXTS_WIDTH);
     filled(numbers, texts, i, new);
 }
 
@@ -353,8 +350,12 @@ pub(crate) fn taken_out(numbers: &mut Numbers, texts: &mut Texts, n: usize, i: u
     requires { (i < n) × (n ≤ advertisements_max) }
     ensures { entries (n - 1) numbers.new texts.new ≡ remove_at i (entries n numbers.old texts.old) }
 {
-    let at = NUMBERS_WIDTH * i;
-    numbers.copy_within(at + NUMBERS_WIDTH..NUMBERS_WIDTH * n, at);
-    let place = TEXTS_WIDTH * i;
-    texts.copy_within(place + TEXTS_WIDTH..TEXTS_WIDTH * n, place);
+    let last = n - 1;
+    down(
+        numbers,
+        NUMBERS_WIDTH * i,
+        NUMBERS_WIDTH * last,
+        NUMBERS_WIDTH,
+    );
+    down(texts, TEXTS_WIDTH * i, TEXTS_WIDTH * last, TEXTS_WIDTH);
 }

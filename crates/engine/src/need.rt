@@ -1,14 +1,16 @@
 // How many bytes of outbox a call needs: those of the records that it would write (document 02, change 1). A call asks before it writes; its owner may ask before it calls,
 // and what is answered holds until the next call. The arrays come one by one, as an owner in C lends them.
 // The contracts cite the formula, specs/Need.antt, through `need_of`, by which refusal 2 goes.
-ghost use Rattle.std.specs.Prelude.{◌≡◌, cond, List, ℕ, ◌+◌, ◌*◌, ◌≤◌, leb};
+ghost use Rattle.std.specs.Prelude.{◌≡◌, cond, List, ℕ, ◌+◌, ◌*◌, ◌≤◌, leb, ltb};
 ghost use Rattle.engine.specs.Sizes.{advertisements_max, subscriptions_max, sources_max};
 ghost use Rattle.engine.specs.Table.{known};
 ghost use Rattle.engine.specs.Held.{Text, advertised};
 ghost use Rattle.engine.specs.Calls.{NewLink, NewAddress, Subscribe, Advertise, Deadvertise, Refresh, Timeout};
 ghost use Rattle.engine.specs.Need.{searches_count};
+ghost use Rattle.engine.specs.Links.{stores};
+ghost use Rattle.engine.specs.Records.{turns_up};
 ghost use Rattle.engine.specs.Engine.{need_of};
-ghost use Rattle.engine.specs.Arrays.{timer_in, name_count, names_in, searches_in, engine, held};
+ghost use Rattle.engine.specs.Arrays.{timer_in, name_count, names_in, searches_in, links_in, engine, held};
 
 use crate::head::timer_in;
 use crate::pending::due_in;
@@ -78,6 +80,24 @@ pub fn of_new_link(head: &Head, links: &Links, searches: &Searches, index: u32, 
     0
 }
 
+// Whether an outbox of `room` bytes is shorter than news of a link needs. Where the link does not turn up, nothing is sent and nothing counted.
+pub(crate) fn is_short_of_link(
+    head: &Head,
+    links: &Links,
+    searches: &Searches,
+    index: u32,
+    flags: u32,
+    turns: bool,
+    room: usize,
+) -> bool
+    ensures { (numbers texts : List ℕ) (outcome : ℕ) → turns ≡ turns_up index flags (links_in head.now links.now) → result ≡ ltb room (need_of (held (engine head.now links.now searches.now numbers texts)) (NewLink index flags outcome room)) }
+{
+    if turns {
+        return room < of_new_link(head, links, searches, index, flags);
+    }
+    false
+}
+
 // A new address: advertisements plus searches, if it is stored on an up link.
 pub fn of_new_address(
     head: &Head,
@@ -93,6 +113,24 @@ pub fn of_new_address(
         return RECORD_SIZE * entry_count(head, searches);
     }
     0
+}
+
+// As `is_short_of_link`, for an address that is stored or not.
+pub(crate) fn is_short_of_address(
+    head: &Head,
+    links: &Links,
+    searches: &Searches,
+    index: u32,
+    address: &[u8],
+    storing: bool,
+    room: usize,
+) -> bool
+    ensures { (numbers texts : List ℕ) → storing ≡ stores index address.now (links_in head.now links.now) → result ≡ ltb room (need_of (held (engine head.now links.now searches.now numbers texts)) (NewAddress index address.now room)) }
+{
+    if storing {
+        return room < of_new_address(head, links, searches, index, address);
+    }
+    false
 }
 
 // The records of the salvo, if that is due.

@@ -11,10 +11,11 @@ ghost use Rattle.engine.specs.Changes.{blank, PassOne, PassAll, AskedBy};
 ghost use Rattle.engine.specs.declared.advertisement.ResponseNeeded.TheVariants.{Unicast};
 
 use crate::advertisement::{Endpoint, ResponseNeeded};
+use crate::buffer::put;
 use crate::delay::delay_of;
 use crate::names::{count_of, open_at, own_type_at, reply_at, service_at, store_reply};
 use crate::search::Search;
-use crate::sizes::{Head, Numbers, Texts};
+use crate::sizes::{Head, Numbers, TYPE_SIZE, Texts};
 use crate::wanted::{wanted_of, wants, wants_all};
 
 // How many replies wait, and the earliest of an instant and theirs.
@@ -71,7 +72,14 @@ fn ask_for(numbers: &mut Numbers, texts: &mut Texts, i: usize, search: &Search<'
     if wants_all(search.wanted) {
         own_type_at(numbers, texts, i, reply);
     } else {
-        open_at(numbers, texts, i, reply, search.target);
+        open_at(
+            numbers,
+            texts,
+            i,
+            reply,
+            &search.answer,
+            search.target.len(),
+        );
     }
     Asked {
         matched: 1,
@@ -123,8 +131,11 @@ pub(crate) fn searched(
     requires { (length target.now ≤ type_max) × (time ≤ time_max) }
     ensures { AskedBy seed (record { target = target.now; mx = mx; sender = sender; receiver = receiver; time = time }) (names_in head.now numbers.old texts.old) (names_in head.now numbers.new texts.new) result.matched result.joined }
 {
+    let mut answer = [0; TYPE_SIZE];
+    put(&mut answer, 0, target);
     let search = Search {
         target,
+        answer,
         wanted: wanted_of(target),
         due: time + delay_of(seed, mx),
         sender,

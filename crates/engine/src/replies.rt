@@ -35,14 +35,20 @@ impl ResponseNeeded {
     pub(crate) fn waits(self) -> usize
         ensures { (result ≡ waits self) × (result ≤ 1) }
     {
-        usize::from(self.due().is_some())
+        match self {
+            ResponseNeeded::None => 0,
+            ResponseNeeded::Multicast(_) | ResponseNeeded::Unicast(_, _, _) => 1,
+        }
     }
 
     // The earlier of an instant and that of the reply, if one waits.
     pub(crate) fn sooner(self, time: u64) -> u64
         ensures { result ≡ sooner time self }
     {
-        self.due().map_or(time, |due| time.min(due))
+        match self {
+            ResponseNeeded::None => time,
+            ResponseNeeded::Multicast(due) | ResponseNeeded::Unicast(due, _, _) => time.min(due),
+        }
     }
 
     // The waiting reply of a name after a search that asks for it: one opens, or the searcher joins the one that waits.

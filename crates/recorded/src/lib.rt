@@ -99,7 +99,7 @@ impl fmt::Display for Tally {
 }
 
 // Asks of each line of a list, by its fields, whether the answer agrees. A read that fails counts as the end of the list, and
-// so does an empty line, since no recorded one is empty: the only error is a lack of memory.
+// so does an empty line, since no recorded one is empty: the only error is a lack of memory, for the list too.
 pub fn replay<R: Read + Drop, F: FnMut(&[&[u8]]) -> Result<bool, AllocError>>(
     alloc: Global,
     mut list: R,
@@ -109,7 +109,10 @@ pub fn replay<R: Read + Drop, F: FnMut(&[&[u8]]) -> Result<bool, AllocError>>(
     ensures { IfErr result (λ e. error_kind e ≡ ErrorKind.OutOfMemory) }
 {
     let mut text = Vec::new(alloc);
-    let _ = list.read_to_end(&mut text);
+    match list.read_to_end(&mut text) {
+        Err(error) if error.kind() == ErrorKind::OutOfMemory => return Err(error),
+        _ => {}
+    }
     let mut tally = Tally::default();
     for line in text.split(|b| *b == b'\n') {
         if line.is_empty() {

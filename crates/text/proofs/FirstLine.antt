@@ -8,10 +8,10 @@ use borrow.Author.Tests.{eq-eqb, ne_eqb, ltb-true, ltb-false}
 use lib.Dec.{eqb, ltb}
 use lib.ListN.{length, take, drop, get_or, length-append}
 use lib.Seq.{take-length, drop-length, length-take-le, get_or-take, take-take, take-append_seam, get_or-append_seam}
-use Rattle.text.specs.Bytes.{index_of, first_place}
+use Rattle.text.specs.Bytes.{index_of, first_place, headed}
 use Rattle.text.specs.Lines.{before, lines, without, bare, line_of, first_line}
 use Rattle.text.specs.declared.lines.Line.{Line}
-use Rattle.text.proofs.Finding.{index_of-found, index_of-before, index_of-le}
+use Rattle.text.proofs.Finding.{index_of-found, index_of-before, index_of-le, place-is, place-next, place_here, headed-is, headed-not}
 
 -- the first n bytes of a text without a last byte b
 module _ (s : List ℕ) (n : ℕ) (some : n ≡ 0 → ⊥) (room : n ≤ length s) where
@@ -137,6 +137,25 @@ at-end s {n} {m} e h q =
     let w : bare (take (suc n) s) ≡ without 13 (take n s) = bare-ended s (suc n) (λ f. omega (arith, f)) (omega arith) v ∙ ap (λ (j : ℕ). without 13 (take j s)) x in
     first_of s (take (suc n) s) (lines (drop (suc n) s))
     (cut s g ∙ ap (λ (j : ℕ). take (suc j) s ∷ lines (drop (suc j) s)) (sym e)) (q ∙ sym (ap length w)) (y ∙ sym (length-take-le (suc n) s h))
+
+-- an empty line, of its end alone
+pub at-once : (s : List ℕ) → 0 < length s → get_or s 0 0 ≡ 10 → record { len = 0; next = 1 } ≡ first_line s
+unfolding index_of
+at-once s h e =
+    let i : 0 ≡ index_of 10 s = sym (place-is (headed 10) s 0 h (headed-is s 0 10 e) (λ k g. absurd (omega arith))) in
+    at-end s {n = 0} {m = 0} i h (sym (ap length (without-nil 13)))
+
+pub at-second : (s : List ℕ) → 1 < length s → get_or s 0 0 ≡ 13 → get_or s 1 0 ≡ 10 → record { len = 0; next = 2 } ≡ first_line s
+unfolding index_of
+at-second s h e f =
+    let t : List ℕ = take 1 s in
+    let l : length t ≡ 1 = length-take-le 1 s (omega arith) in
+    let other : get_or s 0 0 ≡ 10 → ⊥ = λ q. omega (arith, e, q) in
+    let next = place-next (headed 10) s 0 (omega arith) (headed-not s 0 10 other) (omega arith) in
+    let i : 1 ≡ index_of 10 s = sym (place_here (headed 10) s 1 h (headed-is s 1 10 f) next) in
+    let g : get_or t (length t - 1) 0 ≡ 13 = ap (λ (k : ℕ). get_or t (k - 1) 0) l ∙ get_or-take 1 s 0 0 (omega arith) ∙ e in
+    let m : length (take (length t - 1) t) ≡ length t - 1 = length-take-le (length t - 1) t (omega arith) in
+    at-end s {n = 1} {m = 0} i h (omega (arith, l, m, ap length (without-at t 13 g)))
 
 -- what the first line r of a text is to its lines
 pub record Joined (s : List ℕ) (r : Line) : Type 0 where

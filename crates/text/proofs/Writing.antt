@@ -2,22 +2,69 @@
 -- the whole.
 use mathlib.Core.Path.{◌≡◌, sym, ◌∙◌, ap, subst}
 use mathlib.Core.List.{List, [], ◌++◌, append_assoc, append-nil}
-use Prim.Native.Nat.{ℕ, ◌+◌, ◌-◌, ◌≤◌}
+use Prim.Native.Nat.{ℕ, ◌+◌, ◌-◌, ◌≤◌, ◌<◌}
 use native.Mathlib.Omega.{arith}
 use native.Mathlib.Nat.{add-zero}
-use lib.ListN.{length, take, drop, length-append, length-drop, drop_of_length-le, take-append-drop}
-use lib.Seq.{take_at, drop_at, drop-append-add, drop-drop, length-take-le, take-append-le, take-take, take_all}
-use borrow.Rule.Slice.PartMut.{put_mid}
+use native.Mathlib.Numerals.{add-one}
+use lib.ListN.{length, take, drop, set, get_or, length-append, length-drop, drop_of_length-le, take-append-drop}
+use lib.Seq.{paste, paste-suc, length_paste_head, take_at, drop_at, take-add, take-append-add, take-length, drop-append-add, drop-drop, drop-length, length-take-le, take-append-le, take-take, take_all}
 use Rattle.text.specs.Put.{overwritten, Put}
 
--- what is copied into the part of a buffer is written into the buffer
-pub middle : (b t : List ℕ) (at : ℕ) {k : ℕ} {d : List ℕ} → k ≡ length t → d ≡ t → put_mid at k b d ≡ overwritten b at t
+-- one turn of a loop that copies `text` to `at`
+pub turn : (buffer after text : List ℕ) (at i next : ℕ) → next ≡ at + i → at + i < length buffer → i < length text → after ≡ paste buffer at text i
+    → set after next (get_or text i 0) ≡ paste buffer at text (i + 1)
+turn buffer after text at i next e h g p =
+    ap (λ (l : List ℕ). set l next (get_or text i 0)) p ∙ ap (λ (k : ℕ). set (paste buffer at text i) k (get_or text i 0)) e
+    ∙ paste-suc buffer at text i 0 h g ∙ ap (paste buffer at text) (sym (add-one i))
+
+-- and its end
+pub copied : (buffer after text : List ℕ) (at i : ℕ) → i ≡ length text → after ≡ paste buffer at text i → after ≡ overwritten buffer at text
 unfolding overwritten
-middle b t at {k} {d} n e =
-    ap (put_mid at k b) e
-    ∙ ap (λ (j : ℕ). put_mid at j b t) n
-    ∙ ap (λ (l : List ℕ). take at b ++ (t ++ l)) (drop-drop (length t) at b)
-    ∙ sym (append_assoc (take at b) t (drop (at + length t) b))
+copied buffer after text at i e p =
+    p ∙ ap (paste buffer at text) e ∙ ap (λ (l : List ℕ). take at buffer ++ l ++ drop (at + length text) buffer) (take-length text)
+
+-- the length of a part of a text
+pub part_length : (t : List ℕ) (k e : ℕ) → e ≤ length t → length (take (e - k) (drop k t)) ≡ e - k
+part_length t k e h = length-take-le (e - k) (drop k t) (omega (arith, length-drop k t))
+
+-- the part of `text` from `k` to `e` written behind, or over the end of, the `i` bytes that are written already
+pub over : (b t : List ℕ) (at i k e : ℕ) {b' b'' : List ℕ} {r : ℕ} → at ≤ length b → k ≤ i → i ≤ e → e ≤ length t → b' ≡ paste b at t i
+    → Put b' (at + k) (take (e - k) (drop k t)) b'' r → b'' ≡ paste b at t e
+unfolding overwritten
+over b t at i k e {b'} {b''} room low high fits w p =
+    let a : List ℕ = take at b in
+    let x : List ℕ = take (e - k) (drop k t) in
+    let la : length a ≡ at = length-take-le at b room in
+    let lh : length (a ++ take i t) ≡ at + i = length_paste_head b at t i room (omega arith) in
+    let n : at + k + length x ≡ length (a ++ take i t) + (e - i) = omega (arith, part_length t k e fits, lh) in
+    let q : at + i + (e - i) ≡ at + e = omega arith in
+    let z : k + (e - k) ≡ e = omega arith in
+    let front : take (at + k) b' ≡ a ++ take k t =
+    ap (take (at + k)) w
+    ∙ take-append-le (at + k) (a ++ take i t) (drop (at + i) b) (omega (arith, lh))
+    ∙ ap (λ (j : ℕ). take (j + k) (a ++ take i t)) (sym la)
+    ∙ take-append-add a (take i t) k
+    ∙ ap (λ (l : List ℕ). a ++ l) (take-take k i t low)
+    in
+    let back : drop (at + k + length x) b' ≡ drop (at + e) b =
+    ap (drop (at + k + length x)) w
+    ∙ ap (λ (j : ℕ). drop j (a ++ take i t ++ drop (at + i) b)) n
+    ∙ drop-append-add (a ++ take i t) (drop (at + i) b) (e - i)
+    ∙ drop-drop (e - i) (at + i) b
+    ∙ ap (λ (j : ℕ). drop j b) q
+    in
+    let joined : take k t ++ x ≡ take e t = sym (take-add k (e - k) t) ∙ ap (λ (j : ℕ). take j t) z in
+    p.written
+    ∙ ap (λ (l : List ℕ). l ++ x ++ drop (at + k + length x) b') front
+    ∙ ap (λ (l : List ℕ). a ++ take k t ++ x ++ l) back
+    ∙ ap (λ (l : List ℕ). l ++ drop (at + e) b) (append_assoc a (take k t) x ∙ ap (λ (l : List ℕ). a ++ l) joined)
+
+-- a text written over a buffer of its length
+pub filled : {b t b' : List ℕ} {r : ℕ} → length t ≡ length b → Put b 0 t b' r → b' ≡ t
+unfolding overwritten
+filled {b} {t} {b'} e p =
+    let k : 0 + length t ≡ length b = omega (arith, e) in
+    p.written ∙ ap (λ (n : ℕ). t ++ drop n b) k ∙ ap (λ (l : List ℕ). t ++ l) (drop-length b) ∙ append-nil t
 
 -- nothing written
 pub nothing : (b : List ℕ) (at : ℕ) → Put b at [] b at

@@ -14,47 +14,55 @@ struct Call<'a> {
     texts: [&'a [u8]; 3],
 }
 
-// What the engine answers to news of a link or an address; nothing where the call is none of it, or a number is too large.
-fn news(arrays: &mut Arrays, call: Call, outbox: &mut [u8]) -> Option<Answer> {
+// Of a number that is too large for a call the lowest bits count.
+fn low_32(number: u64) -> u32 {
+    (number % (1 << 32)) as u32
+}
+
+fn low_16(number: u64) -> u16 {
+    (number % (1 << 16)) as u16
+}
+
+// What the engine answers to news of a link or an address: any other letter is that of an address that has gone.
+fn news(arrays: &mut Arrays, call: Call, outbox: &mut [u8]) -> Answer {
     let [address, ..] = call.texts;
     let [index, second, third, _] = call.numbers;
-    let index = u32::try_from(index).ok()?;
-    let second = u32::try_from(second).ok()?;
-    let third = u32::try_from(third).ok()?;
-    Some(match call.letter {
+    let index = low_32(index);
+    let second = low_32(second);
+    let third = low_32(third);
+    match call.letter {
         b'l' => arrays.new_link(index, second, third, outbox),
         b'd' => arrays.deleted_link(index, second),
         b'a' => arrays.new_address(index, address, outbox),
-        b'x' => arrays.deleted_address(index, address),
-        _ => return None,
-    })
+        _ => arrays.deleted_address(index, address),
+    }
 }
 
-// What the engine answers to a datagram; nothing where a number is too large.
-fn received(arrays: &mut Arrays, numbers: [u64; 4], datagram: &[u8]) -> Option<Answer> {
+// What the engine answers to a datagram.
+fn received(arrays: &mut Arrays, numbers: [u64; 4], datagram: &[u8]) -> Answer {
     let [time, address, port, receiver] = numbers;
     let sender = Endpoint {
-        address: u32::try_from(address).ok()?,
-        port: u16::try_from(port).ok()?,
+        address: low_32(address),
+        port: low_16(port),
     };
-    Some(arrays.on_data(time, sender, u32::try_from(receiver).ok()?, datagram))
+    arrays.on_data(time, sender, low_32(receiver), datagram)
 }
 
-// What the engine answers to a call; nothing where the call is none.
-fn called(arrays: &mut Arrays, call: Call, outbox: &mut [u8]) -> Option<Answer> {
+// What the engine answers to a call.
+fn called(arrays: &mut Arrays, call: Call, outbox: &mut [u8]) -> Answer {
     let [text, service, location] = call.texts;
     let [number, time, ..] = call.numbers;
-    Some(match call.letter {
-        b'n' => arrays.begin(u32::try_from(number).ok()?, time),
+    match call.letter {
+        b'n' => arrays.begin(low_32(number), time),
         b'z' => arrays.reset_refresh_timer(number),
         b'r' => arrays.refresh(outbox),
         b's' => arrays.subscribe(text, outbox),
         b'v' => arrays.advertise(text, service, location, outbox),
         b'w' => arrays.deadvertise(text, outbox),
         b't' => arrays.handle_timeout(number, outbox),
-        b'p' => return received(arrays, call.numbers, text),
-        _ => return news(arrays, call, outbox),
-    })
+        b'p' => received(arrays, call.numbers, text),
+        _ => news(arrays, call, outbox),
+    }
 }
 
 // The refusal, the number of records, the ledger's counts, poll, mask, number told and leave outcome.
@@ -90,57 +98,42 @@ fn is_answered(arrays: &mut Arrays, call: Call, outbox: &mut [u8], expected: &[u
         return false;
     };
     recorded::fill(outbox);
-    let Some(answer) = called(arrays, call, outbox) else {
-        return false;
-    };
+    let answer = called(arrays, call, outbox);
     numbers == numbers_of(&answer).as_slice() && is_sent(outbox, answer.records, *digest)
 }
 
-fn answers_in(columns: &[&[u8]; 13]) -> [u64; 13] {
-    columns.map(|column| recorded::number(column))
+// Column `k` of a line; nothing where it has fewer.
+fn column<'a>(fields: &[&'a [u8]], k: usize) -> &'a [u8] {
+    fields.get(k).copied().unwrap_or(b"")
+}
+
+fn number(fields: &[&[u8]], k: usize) -> u64 {
+    recorded::number(column(fields, k))
 }
 
 type Texts = (Vec<u8>, Vec<u8>, Vec<u8>);
 
-fn texts_in(alloc: Global, columns: &[&[u8]; 3]) -> Result<Texts, AllocError> {
-    let [text, service, location] = columns;
-    let text = recorded::decoded(alloc, text)?;
-    let service = recorded::decoded(alloc, service)?;
-    let location = recorded::decoded(alloc, location)?;
+fn texts_in(alloc: Global, fields: &[&[u8]]) -> Result<Texts, AllocError> {
+    let text = recorded::decoded(alloc, column(fields, 6))?;
+    let service = recorded::decoded(alloc, column(fields, 7))?;
+    let location = recorded::decoded(alloc, column(fields, 8))?;
     Ok((text, service, location))
 }
 
-// The call of a line's columns.
-fn call_of<'a>(letter: u8, numbers: &[&[u8]; 4], texts: &'a Texts) -> Call<'a> {
-    let (text, service, location) = texts;
-    Call {
-        letter,
-        numbers: numbers.map(|column| recorded::number(column)),
-        texts: [text, service, location],
-    }
-}
-
-// Makes the call of a line, lent as much of the outbox as it says. A line that is not whole differs.
+// Makes the call of a line, lent as much of the outbox as it says.
 pub(crate) fn agrees(
     alloc: Global,
     arrays: &mut Arrays,
     outbox: &mut [u8],
     fields: &[&[u8]],
 ) -> Result<bool, AllocError> {
-    let [[letter], room, rest @ ..] = fields else {
-        return Ok(false);
+    let (text, service, location) = &texts_in(alloc, fields)?;
+    let call = Call {
+        letter: column(fields, 0).first().copied().unwrap_or(0),
+        numbers: [2, 3, 4, 5].map(|k| number(fields, k)),
+        texts: [text, service, location],
     };
-    let Some((numbers, rest)) = rest.split_first_chunk() else {
-        return Ok(false);
-    };
-    let Some((texts, answers)) = rest.split_first_chunk() else {
-        return Ok(false);
-    };
-    let Some(answers) = answers.as_array() else {
-        return Ok(false);
-    };
-    let texts = texts_in(alloc, texts)?;
-    let call = call_of(*letter, numbers, &texts);
-    let room = outbox.len().min(recorded::number(room) as usize);
-    Ok(is_answered(arrays, call, &mut outbox[..room], &answers_in(answers)))
+    let expected = [9, 10, 11, 12, 13, 14, 15, 16, 17, 18, 19, 20, 21].map(|k| number(fields, k));
+    let room = outbox.len().min(number(fields, 1) as usize);
+    Ok(is_answered(arrays, call, &mut outbox[..room], &expected))
 }

@@ -10,53 +10,89 @@ const BUFFER_MAX: usize = 4096;
 // The eight numbers of a line behind the count of its bytes.
 type Numbers = [usize; 8];
 
-// Where a text is that a message does not have.
-const NOWHERE: Place = Place { start: 0, len: 0 };
+// What stands in these of a datagram; nothing in those that say nothing of it and are not looked at.
+type Columns = [Option<usize>; 8];
+
+// The start and the length of a text, if there is one.
+fn place_of(place: Option<Place>) -> (Option<usize>, Option<usize>) {
+    match place {
+        Some(Place { start, len }) => (Some(start), Some(len)),
+        None => (None, None),
+    }
+}
 
 // The columns of a line of the list in their order.
-fn numbers_of(kind: usize, first: Place, second: Place, third: Place, wait: u8) -> Numbers {
-    [
-        kind,
-        first.start,
-        first.len,
-        second.start,
-        second.len,
-        third.start,
-        third.len,
-        usize::from(wait),
-    ]
+fn columns_of(
+    kind: usize,
+    first: Place,
+    second: Option<Place>,
+    third: Option<Place>,
+    wait: Option<usize>,
+) -> Columns {
+    let (b, b_len) = place_of(second);
+    let (c, c_len) = place_of(third);
+    let (a, a_len) = (Some(first.start), Some(first.len));
+    [Some(kind), a, a_len, b, b_len, c, c_len, wait]
 }
 
 // What is listed of a message. The kinds are the numbers 1 to 4 since a column of the list is, and the Rust's side writes
 // the same. Crate `message_c` has such a function for C, in an order of its own.
-fn of_message(message: Message) -> Numbers {
-    match message {
+fn of_message(message: Message) -> Columns {
+    let (kind, first, second, third, wait) = match message {
         Message::NotifyAlive {
             notification_type,
             unique_service_name,
             location,
-        } => numbers_of(1, notification_type, unique_service_name, location, 0),
+        } => (
+            1,
+            notification_type,
+            Some(unique_service_name),
+            Some(location),
+            None,
+        ),
         Message::NotifyByeBye {
             notification_type,
             unique_service_name,
-        } => numbers_of(2, notification_type, unique_service_name, NOWHERE, 0),
+        } => (2, notification_type, Some(unique_service_name), None, None),
         Message::Search {
             search_target,
             maximum_wait_sec,
-        } => numbers_of(3, search_target, NOWHERE, NOWHERE, maximum_wait_sec),
+        } => (
+            3,
+            search_target,
+            None,
+            None,
+            Some(usize::from(maximum_wait_sec)),
+        ),
         Message::Response {
             search_target,
             unique_service_name,
             location,
-        } => numbers_of(4, search_target, unique_service_name, location, 0),
-    }
+        } => (
+            4,
+            search_target,
+            Some(unique_service_name),
+            Some(location),
+            None,
+        ),
+    };
+    columns_of(kind, first, second, third, wait)
 }
 
 // What crate `message` answers to a datagram; a refusal stands in the place of the kind.
-fn of_parse(datagram: &[u8]) -> Numbers {
+fn of_parse(datagram: &[u8]) -> Columns {
     match message::parse(datagram) {
         Ok(message) => of_message(message),
-        Err(error) => numbers_of(error.number() as usize, NOWHERE, NOWHERE, NOWHERE, 0),
+        Err(error) => [
+            Some(error.number() as usize),
+            None,
+            None,
+            None,
+            None,
+            None,
+            None,
+            None,
+        ],
     }
 }
 
@@ -90,21 +126,20 @@ fn build_of(bytes: &[u8], a: usize, b: usize, c: usize) -> Option<Build<'_>> {
     })
 }
 
-// What crate `message` answers to a build; nothing where the letter is none of a build.
-fn built_by(letter: &[u8], buf: &mut [u8], build: Build) -> Option<(usize, usize)> {
+// What crate `message` answers to a build, which any other letter asks of a byebye.
+fn built_by(letter: &[u8], buf: &mut [u8], build: Build) -> (usize, usize) {
     let Build {
         first,
         second,
         third,
         ..
     } = build;
-    Some(of_built(match letter {
+    of_built(match letter {
         b"s" => message::build_search(buf, first),
         b"r" => message::build_response(buf, first, second, third),
         b"n" => message::build_notify(buf, first, second, third),
-        b"b" => message::build_byebye(buf, first, second),
-        _ => return None,
-    }))
+        _ => message::build_byebye(buf, first, second),
+    })
 }
 
 // Whether a build answers as recorded, writes the message and behind it leaves the buffer alone.
@@ -118,16 +153,24 @@ fn is_built(letter: &[u8], numbers: Numbers, bytes: &[u8]) -> bool {
         return false;
     };
     recorded::fill(buf);
-    built_by(letter, buf, build) == Some((refusal, len))
+    built_by(letter, buf, build) == (refusal, len)
         && buf
             .strip_prefix(build.message)
             .is_some_and(|rest| recorded::is_filled(rest))
 }
 
+// Whether the columns that are looked at have these numbers.
+fn are(numbers: Numbers, columns: Columns) -> bool {
+    numbers
+        .iter()
+        .zip(columns)
+        .all(|(number, column)| column.unwrap_or(*number) == *number)
+}
+
 // Whether crate `message` answers as recorded.
 fn is_answered(letter: &[u8], numbers: Numbers, bytes: &[u8]) -> bool {
     match letter {
-        b"p" => numbers == of_parse(bytes),
+        b"p" => are(numbers, of_parse(bytes)),
         _ => is_built(letter, numbers, bytes),
     }
 }

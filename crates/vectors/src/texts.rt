@@ -4,29 +4,29 @@ use std::alloc::{AllocError, Global};
 use std::cmp::Ordering;
 use text::number::Width;
 
-// The two answers of a line.
-type Answers = (u64, u64);
+// The two answers of a line; nothing for a column that says nothing of it and is not looked at.
+type Answers = (Option<u64>, Option<u64>);
 
 fn of_flag(flag: bool) -> Answers {
-    (u64::from(flag), 0)
+    (Some(u64::from(flag)), None)
 }
 
-// The number and 1, or twice 0: these are the columns of the list, and the Rust's side writes the same.
+// The number and 1, or 0 in the second column: these are the columns of the list, and the Rust's side writes the same.
 fn of_number<T: Width + Into<u64>>(s: &[u8]) -> Answers {
     match text::number::parse::<T>(s) {
-        Some(number) => (number.into(), 1),
-        None => (0, 0),
+        Some(number) => (Some(number.into()), Some(1)),
+        None => (None, Some(0)),
     }
 }
 
 fn of_line(s: &[u8]) -> Answers {
     let line = text::lines::first_line(s);
-    (line.len as u64, line.next as u64)
+    (Some(line.len as u64), Some(line.next as u64))
 }
 
 fn of_trim(s: &[u8]) -> Answers {
     let place = text::white::trim(s);
-    (place.start as u64, place.len as u64)
+    (Some(place.start as u64), Some(place.len as u64))
 }
 
 // What crate `text` answers about one text; nothing where the letter does not ask that.
@@ -71,13 +71,14 @@ fn of_two(letter: &[u8], s: &[u8], t: &[u8]) -> Option<u64> {
 }
 
 // Whether crate `text` answers as recorded. The second answer about two texts is the length of the first.
-fn is_answered(letter: &[u8], recorded: Answers, input: &[u8]) -> bool {
-    if let Some(answers) = of_one(letter, input) {
-        return answers == recorded;
+fn is_answered(letter: &[u8], recorded: (u64, u64), input: &[u8]) -> bool {
+    let (first, second) = recorded;
+    if let Some((one, other)) = of_one(letter, input) {
+        return (one.unwrap_or(first) == first) & (other.unwrap_or(second) == second);
     }
     input
-        .split_at_checked(recorded.1 as usize)
-        .is_some_and(|(s, t)| of_two(letter, s, t) == Some(recorded.0))
+        .split_at_checked(second as usize)
+        .is_some_and(|(s, t)| of_two(letter, s, t) == Some(first))
 }
 
 // Whether a line's answers agree; those of a line that is not whole do not.

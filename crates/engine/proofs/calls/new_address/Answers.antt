@@ -11,7 +11,6 @@ use Rattle.engine.specs.Links.{context_after}
 use Rattle.engine.specs.Records.{address_records, all_from, records}
 use Rattle.engine.specs.Refusals.{refused_as, outbox_short, links_full, checks}
 use Rattle.engine.specs.Replies.{results}
-use lib.Dec.{ltb}
 use lib.ListN.{length}
 use native.Mathlib.Omega.{arith}
 use Rattle.engine.proofs.Sending as sending
@@ -22,18 +21,18 @@ pub returns-in-Err : goal.returns-in-Err
 unfolding refusal_of names_of held
 returns-in-Err c =
     let a = c.args in
-    let short = ap (ltb (length a.outbox.now)) (sym (c.of_new_address.ensures a.numbers.now a.texts.now (length a.outbox.now))) in
-    lending.refused-for (engine a.head.now a.links.now a.searches.now a.numbers.now a.texts.now) (NewAddress a.index a.address.now (length a.outbox.now)) _ _ c.number.result c.in-Err.refusal (c.of_new_address-2.ensures _ _ _ (sym (c.is_stored-storing.ensures a.index (links_in a.head.now a.links.now) c.lookup-held.ensures)) (sym (ap length (c.addresses_of-count.ensures a.index (links_in a.head.now a.links.now) c.lookup-held.ensures))) short) c.in-Err.is c.number.ensures (c.refused.ensures _ _ _)
+    let short = sym (c.is_short_of_address-short.ensures a.numbers.now a.texts.now (c.is_stored-storing.ensures a.index (links_in a.head.now a.links.now) c.lookup-held.ensures)) in
+    lending.refused-for (engine a.head.now a.links.now a.searches.now a.numbers.now a.texts.now) (NewAddress a.index a.address.now (length a.outbox.now)) _ _ c.number.result c.in-Err.refusal (c.of_new_address.ensures _ _ _ (sym (c.is_stored-storing.ensures a.index (links_in a.head.now a.links.now) c.lookup-held.ensures)) (sym (ap length (c.addresses_of-count.ensures a.index (links_in a.head.now a.links.now) c.lookup-held.ensures))) short) c.in-Err.is c.number.ensures (c.refused.ensures _ _ _)
 
 pub returns : goal.returns
 unfolding refusal_of names_of held context_after acts results records notifies checks address_records
 returns c =
     let a = c.args in
-    let short = ap (ltb (length a.outbox.now)) (sym (c.of_new_address.ensures a.numbers.now a.texts.now (length a.outbox.now))) in
+    let short = sym (c.is_short_of_address-short.ensures a.numbers.now a.texts.now (c.is_stored-storing.ensures a.index (links_in a.head.now a.links.now) c.lookup-held.ensures)) in
     let size : length a.head.now ≡ head_places = omega arith in
     let t = engine a.head.now a.links.now a.searches.now a.numbers.now a.texts.now in
     let call = NewAddress a.index a.address.now (length a.outbox.now) in
-    let number = sym (c.of_new_address-2.ensures _ _ _ (sym (c.is_stored-storing.ensures a.index (links_in a.head.now a.links.now) c.lookup-held.ensures)) (sym (ap length (c.addresses_of-count.ensures a.index (links_in a.head.now a.links.now) c.lookup-held.ensures))) short) ∙ ap refused_as c.in_default.is in
+    let number = sym (c.of_new_address.ensures _ _ _ (sym (c.is_stored-storing.ensures a.index (links_in a.head.now a.links.now) c.lookup-held.ensures)) (sym (ap length (c.addresses_of-count.ensures a.index (links_in a.head.now a.links.now) c.lookup-held.ensures))) short) ∙ ap refused_as c.in_default.is in
     let p = cleared (held t).context (names_of (held t).advertisements) call number in
     let links = links_in a.head.now a.links.now in
     let sends = all_from (searches_in a.head.now a.searches.now) (names_in a.head.now a.numbers.now a.texts.now) in
@@ -48,10 +47,10 @@ pub send_if_stored-k-requires : goal.send_if_stored-k-requires
 unfolding checks names_of held records address_records
 send_if_stored-k-requires c =
     let a = c.args in
-    let short = ap (ltb (length a.outbox.now)) (sym (c.of_new_address.ensures a.numbers.now a.texts.now (length a.outbox.now))) in
+    let short = sym (c.is_short_of_address-short.ensures a.numbers.now a.texts.now (c.is_stored-storing.ensures a.index (links_in a.head.now a.links.now) c.lookup-held.ensures)) in
     let t = engine a.head.now a.links.now a.searches.now a.numbers.now a.texts.now in
     let call = NewAddress a.index a.address.now (length a.outbox.now) in
-    let p = cleared (held t).context (names_of (held t).advertisements) call (sym (c.of_new_address-2.ensures _ _ _ (sym (c.is_stored-storing.ensures a.index (links_in a.head.now a.links.now) c.lookup-held.ensures)) (sym (ap length (c.addresses_of-count.ensures a.index (links_in a.head.now a.links.now) c.lookup-held.ensures))) short) ∙ ap refused_as c.in_default.is) in
+    let p = cleared (held t).context (names_of (held t).advertisements) call (sym (c.of_new_address.ensures _ _ _ (sym (c.is_stored-storing.ensures a.index (links_in a.head.now a.links.now) c.lookup-held.ensures)) (sym (ap length (c.addresses_of-count.ensures a.index (links_in a.head.now a.links.now) c.lookup-held.ensures))) short) ∙ ap refused_as c.in_default.is) in
     let sends = all_from (searches_in a.head.now a.searches.now) (names_in a.head.now a.numbers.now a.texts.now) in
     let room =
     enough t call a.outbox.now (p outbox_short)

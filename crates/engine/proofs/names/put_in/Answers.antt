@@ -5,4 +5,4 @@ use Rattle.engine.proofs.names.put_in.Goals as goal
 
 pub returns : goal.returns
 returns c =
-    names.put_in c.args.n c.args.i c.args.numbers.now c.args.texts.now (omega arith) (omega arith) _ (omega arith) (omega arith) c.copy_within.ensures.after c.copy_within-2.ensures.after c.filled.ensures
+    names.put_in c.args.n c.args.i c.args.numbers.now c.args.texts.now (omega arith) (omega arith) _ (omega arith) (omega arith) c.up.ensures c.up-2.ensures c.filled.ensures

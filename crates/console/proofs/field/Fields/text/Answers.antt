@@ -7,7 +7,7 @@ use Rattle.console.proofs.field.Fields.text.Goals as goal
 pub returns-in_err-rest : goal.returns-in_err-rest
 returns-in_err-rest c =
     let s = c.args.self.now in
-    rw c.from_residual.ensures (reads_none s s _ (omega (arith, c.in_err-rest.ensures.lookup)) refl)
+    rw c.from_residual.ensures (reads_none s s _ (omega (arith, c.in_err-rest.ensures.lookup)) refl refl)
 
 pub returns : goal.returns
 returns c =

@@ -22,77 +22,46 @@ fn place_of(place: Option<Place>) -> (Option<usize>, Option<usize>) {
 }
 
 // The columns of a line of the list in their order.
-fn columns_of(
-    kind: usize,
-    first: Place,
-    second: Option<Place>,
-    third: Option<Place>,
-    wait: Option<usize>,
-) -> Columns {
-    let (b, b_len) = place_of(second);
-    let (c, c_len) = place_of(third);
-    let (a, a_len) = (Some(first.start), Some(first.len));
+fn columns_of(kind: usize, texts: [Option<Place>; 3], wait: Option<usize>) -> Columns {
+    let [(a, a_len), (b, b_len), (c, c_len)] = texts.map(|text| place_of(text));
     [Some(kind), a, a_len, b, b_len, c, c_len, wait]
 }
 
 // What is listed of a message. The kinds are the numbers 1 to 4 since a column of the list is, and the Rust's side writes
 // the same. Crate `message_c` has such a function for C, in an order of its own.
 fn of_message(message: Message) -> Columns {
-    let (kind, first, second, third, wait) = match message {
+    let (kind, texts, wait) = match message {
         Message::NotifyAlive {
-            notification_type,
-            unique_service_name,
-            location,
-        } => (
-            1,
-            notification_type,
-            Some(unique_service_name),
-            Some(location),
-            None,
-        ),
+            notification_type: a,
+            unique_service_name: b,
+            location: c,
+        } => (1, [Some(a), Some(b), Some(c)], None),
         Message::NotifyByeBye {
-            notification_type,
-            unique_service_name,
-        } => (2, notification_type, Some(unique_service_name), None, None),
+            notification_type: a,
+            unique_service_name: b,
+        } => (2, [Some(a), Some(b), None], None),
         Message::Search {
-            search_target,
+            search_target: a,
             maximum_wait_sec,
         } => (
             3,
-            search_target,
-            None,
-            None,
+            [Some(a), None, None],
             Some(usize::from(maximum_wait_sec)),
         ),
         Message::Response {
-            search_target,
-            unique_service_name,
-            location,
-        } => (
-            4,
-            search_target,
-            Some(unique_service_name),
-            Some(location),
-            None,
-        ),
+            search_target: a,
+            unique_service_name: b,
+            location: c,
+        } => (4, [Some(a), Some(b), Some(c)], None),
     };
-    columns_of(kind, first, second, third, wait)
+    columns_of(kind, texts, wait)
 }
 
 // What crate `message` answers to a datagram; a refusal stands in the place of the kind.
 fn of_parse(datagram: &[u8]) -> Columns {
     match message::parse(datagram) {
         Ok(message) => of_message(message),
-        Err(error) => [
-            Some(error.number() as usize),
-            None,
-            None,
-            None,
-            None,
-            None,
-            None,
-            None,
-        ],
+        Err(error) => columns_of(error.number() as usize, [None; 3], None),
     }
 }
 
